@@ -1,0 +1,69 @@
+-- What a caller learns of vetting's answer: the counts are those of an accepted case and small, and so is a refusal's place.
+use Prim.Native.Nat.{ℕ, _^_, _≤_, _<_}
+use mathlib.Core.List.{List}
+use mathlib.Core.Path.{_≡_, refl, sym, ap, subst, _∙_}
+use native.Mathlib.Omega.{arith}
+use lib.Dec.{ltb}
+use lib.ListN.{length}
+use Rattle.case_model.specs.Bytes.{byteAt, sections}
+use Rattle.case_model.specs.Case.{read}
+use Rattle.case_model.specs.Rows.{Found, sound, refused, _orElse_, mostStates, mostNodes, row8, refusals}
+use Rattle.case_model.specs.Replies.{Counts, counts, replied, answers, refuses, vetting}
+use Rattle.case_model.proofs.Sections.{left-sound}
+use Rattle.case_model.proofs.Valid.{Valid, accepted-valid}
+use Rattle.case_model.proofs.Places.{Placed, nowhere, somewhere, vetted-placed}
+use Rattle.case_file.specs.Told.{number, told, countsOf}
+use Rattle.case_file.specs.declared.reason.Reason.{Reason}
+use Rattle.case_file.specs.declared.reason.Reason.the-variants as reason
+use Rattle.case_file.specs.declared.reason.Refusal.{Refusal}
+use Rattle.case_file.specs.declared.vetting.Case.{Case}
+use Rattle.case_file.specs.declared.vetting.Vetted.{Vetted}
+use Rattle.case_file.specs.declared.vetting.Vetted.the-variants as vetted
+
+-- an answer says that nothing was found, and is what was to be answered
+pub replied-sound : {A : Type 0} (r : Found) (a b : A) → replied r a ≡ answers b → (r ≡ sound) × (a ≡ b)
+replied-sound sound a b e = (refl, cc)
+replied-sound (refused k p) a b e = (cc, cc)
+
+-- a refusal says which was found
+replied-refused : {A : Type 0} (r : Found) (a : A) (k p : ℕ) → replied r a ≡ refuses k p → r ≡ refused k p
+replied-refused sound a k p e = cc
+replied-refused (refused j q) a k p e = cc
+
+pub record Counted (x : Case) : Type 0 where
+  pub states : x .states ≤ mostStates
+  pub nodes : x .nodes ≤ mostNodes
+
+pub case-small : (f : List ℕ) (k : ℕ) {v : Vetted} (x : Case) → v ≡ vetted.Case x → told v ≡ vetting f k → Counted x
+unfolding vetting
+case-small f k x q e =
+    let (s, same) = replied-sound (refusals f orElse row8 k sections) (counts (read f)) (countsOf x) (sym e ∙ ap told q) in
+    let c = accepted-valid f (left-sound (refusals f) (row8 k sections) s) in
+    record {
+      states = subst (λ (n : ℕ). n ≤ mostStates) (ap (λ (y : Counts). y .states) same) (c .few);
+      nodes = subst (λ (n : ℕ). n ≤ mostNodes) (ap (λ (y : Counts). y .nodes) same) (c .most);
+    }
+
+pub place-small : (f : List ℕ) → ((i : ℕ) → byteAt f i < 256) → (k : ℕ) {v : Vetted} (x : Refusal) → v ≡ vetted.Refused x → told v ≡ vetting f k
+    → x .place < 2 ^ 32
+unfolding vetting
+place-small f bytes k x q e =
+    small (subst Placed (replied-refused (refusals f orElse row8 k sections) (counts (read f)) _ _ (sym e ∙ ap told q)) (vetted-placed f bytes (ltb k sections)))
+  where
+    small : {k p : ℕ} → Placed (refused k p) → p < 2 ^ 32
+    small (somewhere h) = h
+
+pub number-small : (r : Reason) → number r ≤ 13
+number-small reason.Pairs = omega arith
+number-small reason.Labels = omega arith
+number-small reason.Steps = omega arith
+number-small reason.Rule = omega arith
+number-small reason.Node = omega arith
+number-small reason.Binder = omega arith
+number-small reason.Free = omega arith
+number-small reason.Beyond = omega arith
+number-small reason.Work = omega arith
+number-small reason.Unlike = omega arith
+number-small reason.Shape = omega arith
+number-small reason.Nodes = omega arith
+number-small reason.Room = omega arith

@@ -1,0 +1,5 @@
+pub mod Readers
+pub mod Chain
+pub mod Stages
+pub mod Answers
+pub mod Opening

@@ -1,0 +1,54 @@
+-- What the answer of vetting tells of the section that is opened.
+use Prim.Native.Nat.{ℕ, _+_, _≤_, _<_}
+use mathlib.Core.Bool.{cond}
+use mathlib.Core.List.{List, []}
+use mathlib.Core.Path.{_≡_, sym, ap, _∙_}
+use borrow.Author.Tests.{ltb-true, lt-ltb}
+use lib.Dec.{ltb}
+use lib.ListN.{length, take, drop}
+use Rattle.case_model.specs.Bytes.{byteAt, offset, size, sections, section}
+use Rattle.case_model.specs.Case.{read}
+use Rattle.case_model.specs.Rows.{_orElse_, row8, refusals}
+use Rattle.case_model.specs.Replies.{counts, vetting, opening, openedAt}
+use Rattle.case_model.proofs.Lists.{length-listOf}
+use Rattle.case_model.proofs.Sections.{within, section-part, left-sound, right-sound, unless-sound}
+use Rattle.case_model.proofs.Valid.{accepted-pairs}
+use Rattle.case_file.specs.Told.{told, countsOf}
+use Rattle.case_file.proofs.Answers.{replied-sound}
+use Rattle.case_file.specs.declared.reason.Refusal.{Refusal}
+use Rattle.case_file.specs.declared.vetting.Case.{Case}
+use Rattle.case_file.specs.declared.vetting.Vetted.{Vetted}
+use Rattle.case_file.specs.declared.vetting.Vetted.the-variants as vetted
+
+pub record Opens (f : List ℕ) (k : ℕ) : Type 0 where
+  pub number : k < sections
+  pub fits : offset f k + size f k ≤ length f
+  pub is : opening f k ≡ take (size f k) (drop (offset f k) f)
+  pub long : length (opening f k) ≡ size f k
+  pub at : openedAt f k ≡ offset f k
+
+pub opens : (f : List ℕ) (k : ℕ) {v : Vetted} (x : Case) → v ≡ vetted.Case x → told v ≡ vetting f k → Opens f k
+unfolding vetting opening openedAt
+opens f k {v} x q e =
+    let s = replied-sound (refusals f orElse row8 k sections) (counts (read f)) (countsOf x) (sym e ∙ ap told q) .0 in
+    let h : k < sections = ltb-true _ _ (unless-sound _ 8 0 (right-sound (refusals f) (row8 k sections) s)) in
+    let p = accepted-pairs f (left-sound (refusals f) (row8 k sections) s) in
+    record {
+      number = h;
+      fits = within f p k h;
+      is = rw (← e, q) (section-part f p k h);
+      long = rw (← e, q) (unfold section in length-listOf (size f k) (λ i. byteAt f (offset f k + i)));
+      at = rw (← e, q);
+    }
+
+-- what a reader of the pair of such a section answers
+pub there : {f : List ℕ} {k : ℕ} → Opens f k → (x : ℕ) {r : ℕ} → r ≡ cond (ltb k sections) x 0 → r ≡ x
+there o x e = e ∙ rw (lt-ltb _ _ (o .number))
+
+pub record Empty (f : List ℕ) (k : ℕ) : Type 0 where
+  pub is : [] ≡ opening f k
+  pub at : openedAt f k ≡ 0
+
+pub refuses : (f : List ℕ) (k : ℕ) {v : Vetted} (x : Refusal) → v ≡ vetted.Refused x → told v ≡ vetting f k → Empty f k
+unfolding opening openedAt
+refuses f k x q e = record { is = rw (← e, q); at = rw (← e, q) }

@@ -1,0 +1,42 @@
+-- A chain of tests is the rows that they find, one after the other; and what a chain that found nothing tells.
+use Prim.Native.Nat.{ℕ, suc, _-_}
+use mathlib.Core.Bool.{true}
+use mathlib.Core.List.{List}
+use mathlib.Core.Path.{_≡_, sym, ap, ap₂, _∙_}
+use native.Mathlib.Omega.{arith}
+use borrow.Author.Tests.{leb-true, ltb-true}
+use Rattle.case_model.specs.Case.{read}
+use Rattle.case_model.specs.Rows.{Found, _orElse_, ruleHolds, row1, row2, row3, row4, row5, row6}
+use Rattle.case_model.specs.Replies.{replied, counts}
+use Rattle.case_model.proofs.Sections.{orElse-assoc, left-sound, right-sound, unless-sound}
+use Rattle.case_model.proofs.Tests.{and-l, and-r}
+use Rattle.case_file.specs.Told.{found, countsOf, Stage, Went, MayClose}
+use Rattle.case_file.specs.declared.vetting.Vetting.{Vetting}
+
+-- one test more
+pub went : {f : List ℕ} {s r : Vetting} {x y : Found} → Stage f s x → Went s r y → Stage f r (x orElse y)
+went {y = y} p q = record { finds = q .finds ∙ ap (λ z. z orElse y) (p .finds); has = q .has ∙ p .has }
+
+-- two tests that make one row
+pub went-twice : {a b c : Vetting} {x y : Found} → Went a b x → Went b c y → Went a c (x orElse y)
+went-twice {a} {x = x} {y} p q =
+    record { finds = q .finds ∙ ap (λ z. z orElse y) (p .finds) ∙ orElse-assoc (found (a .finding)) x y; has = q .has ∙ p .has }
+
+-- the reply at the end of a chain
+pub answered : {f : List ℕ} {s : Vetting} {x : Found} → Stage f s x
+    → replied (found (s .finding)) (countsOf (s .case)) ≡ replied x (counts (read f))
+answered p = ap₂ replied (p .finds) (p .has)
+
+-- where rows 1 to 6 found nothing, row 4 did not, which bounds the nodes and the root
+pub may-close : (f : List ℕ) {s : Vetting}
+    → Stage f s (row1 f orElse row2 (read f) orElse row3 f (read f) orElse row4 f (read f) orElse row5 (read f) orElse row6 (read f))
+    → MayClose s (read f)
+may-close f p e =
+    let r = right-sound (row1 f orElse row2 (read f) orElse row3 f (read f)) (row4 f (read f))
+    (left-sound _ (row5 (read f)) (left-sound _ (row6 (read f)) (sym (p .finds) ∙ e))) in
+    let h : ruleHolds f (read f) ≡ true = unless-sound _ 4 0 r in
+    (leb-true _ _ (search (and-l, and-r)), ltb-true _ _ (search (and-l, and-r)))
+
+-- a number that is not 0, where a recursion takes its step
+pub peel : {A : Type 0} (g : ℕ → A) (i : ℕ) → (i ≡ 0 → ⊥) → g i ≡ g (suc (i - 1))
+peel g i h = let e : i ≡ suc (i - 1) = omega arith in ap g e

@@ -1,0 +1,19 @@
+-- `case_file::vetting::Vetting::unless` meets its contract: what was found before, then what the test finds.
+use borrow.Author.Needs.{needs}
+use mathlib.Core.Path.{refl, ap, _∙_}
+use Rattle.case_model.specs.Rows.{_orElse_}
+use Rattle.case_file.specs.Told.{found}
+use Rattle.case_file.proofs.vetting.Vetting.unless.Statement.{statement}
+use Rattle.case_file.proofs.vetting.Vetting.unless.Tie as tie
+
+tested-requires : tie.Need-tested-requires
+tested-requires c κs = search needs
+
+earlier-requires : tie.Need-earlier-requires
+earlier-requires c κs = search needs
+
+returns : tie.Need-returns
+returns c = record { finds = c .earlier .ensures ∙ ap (λ x. found (c .before .before .before .args .self .finding) orElse x) (c .before .tested .ensures); has = refl }
+
+pub unless-spec : {M : Type 1} → statement M
+unless-spec = tie.close (tie.spec tested-requires earlier-requires returns)

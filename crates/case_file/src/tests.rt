@@ -1,0 +1,150 @@
+// The tests of rows 1 to 6, each over any bytes.
+ghost use mathlib.Core.Path.{_≡_};
+ghost use Prim.Native.Nat.{_-_, _<_};
+ghost use lib.ListN.{length};
+ghost use Rattle.flc.specs.Sets.{forSome, first};
+ghost use Rattle.case_model.specs.Bytes.{sections, chained, pairsHold};
+ghost use Rattle.case_model.specs.Case.{read, at};
+ghost use Rattle.case_model.specs.Rows.{rises, stepWrong, nodeHolds, nodeWrong, binds, binderWrong, labelsHold, ruleHolds};
+ghost use Rattle.case_file.specs.Read.{triple};
+ghost use Rattle.case_file.specs.Told.{wrong};
+use crate::bytes::word;
+use crate::parts::Triple;
+use crate::parts::node;
+use crate::parts::node_count;
+use crate::parts::root;
+use crate::parts::state_count;
+use crate::parts::step;
+use crate::vetting::Case;
+
+// Does each section begin where the one before ends, and the last end with the file?
+fn chained(file: &[u8]) -> bool
+    ensures { λ r. ⌜ r ≡ chained (now (file .entry)) 12 0 sections ⌝ }
+{
+    let mut at = 4 * Case::SECTIONS;
+    let mut k = 0;
+    while k < Case::SECTIONS {
+        if word(file, 4 * k) != at {
+            return false;
+        }
+        at += word(file, 4 * k + 2);
+        k += 1;
+    }
+    at == file.len()
+}
+
+pub(crate) fn pairs_hold(file: &[u8]) -> bool
+    ensures { λ r. ⌜ r ≡ pairsHold (now (file .entry)) ⌝ }
+{
+    let all = file.len();
+    (4 * Case::SECTIONS <= all) & (all <= Case::LONGEST) & chained(file)
+}
+
+pub(crate) fn labels_hold(file: &[u8]) -> bool
+    ensures { λ r. ⌜ r ≡ labelsHold (read (now (file .entry))) ⌝ }
+{
+    let n = state_count(file);
+    (1 <= n) & (n <= Case::STATES)
+}
+
+// One less, and 0 for 0.
+fn before(i: usize) -> usize
+    ensures { λ r. ⌜ r ≡ i - 1 ⌝ }
+{
+    if 0 < i { i - 1 } else { 0 }
+}
+
+// Is t strictly before u?
+fn rises(t: Triple, u: Triple) -> bool
+    ensures { λ r. ⌜ r ≡ rises (triple t) (triple u) ⌝ }
+{
+    (t.0 < u.0) | ((t.0 == u.0) & ((t.1 < u.1) | ((t.1 == u.1) & (t.2 < u.2))))
+}
+
+fn step_wrong(file: &[u8], i: usize) -> bool
+    ensures { λ r. ⌜ r ≡ stepWrong (read (now (file .entry))) i ⌝ }
+{
+    let n = state_count(file);
+    let t = step(file, i);
+    let last = step(file, before(i));
+    !((t.0 < n) & (t.1 < Case::ACTIONS) & (t.2 < n) & ((i == 0) | rises(last, t)))
+}
+
+pub(crate) fn rule_holds(file: &[u8]) -> bool
+    ensures { λ r. ⌜ r ≡ ruleHolds (now (file .entry)) (read (now (file .entry))) ⌝ }
+{
+    let m = node_count(file);
+    (word(file, 10) % 3 == 1) & (1 <= m) & (m <= Case::NODES) & (root(file) < m)
+}
+
+// The lines of the table of kinds, for node j.
+fn node_holds(j: usize, t: Triple) -> bool
+    ensures { λ r. ⌜ r ≡ nodeHolds j (triple t) ⌝ }
+{
+    let k = t.0;
+    let a = t.1;
+    let b = t.2;
+    ((k <= 1) & (a == 0) & (b == 0))
+        | ((2 <= k) & (k <= 3) & (a < Case::PROPOSITIONS) & (b == 0))
+        | ((k == 4) & (a < Case::VARIABLES) & (b == 0))
+        | ((k == 5) & (a == 0) & (b == 0))
+        | ((6 <= k) & (k <= 7) & (a < Case::ACTIONS) & (b == 0))
+        | ((8 <= k) & (k <= 10) & (a < j) & (b < j))
+        | ((11 <= k) & (k <= 12) & (a < Case::VARIABLES) & (b < j))
+}
+
+fn node_wrong(file: &[u8], j: usize) -> bool
+    ensures { λ r. ⌜ r ≡ nodeWrong (read (now (file .entry))) j ⌝ }
+{
+    !node_holds(j, node(file, j))
+}
+
+// Does a node below j bind v?
+fn bound_below(file: &[u8], v: usize, j: usize) -> bool
+    ensures { λ r. ⌜ r ≡ forSome j (λ i. binds (at (read (now (file .entry)) .nodes) i) v) ⌝ }
+{
+    if j == 0 {
+        return false;
+    }
+    let i = j - 1;
+    let t = node(file, i);
+    bound_below(file, v, i) | ((11 <= t.0) & (t.1 == v))
+}
+
+fn binder_wrong(file: &[u8], j: usize) -> bool
+    ensures { λ r. ⌜ r ≡ binderWrong (read (now (file .entry))) j ⌝ }
+{
+    let t = node(file, j);
+    (11 <= t.0) & bound_below(file, t.1, j)
+}
+
+// What a search goes through.
+pub(crate) enum Search {
+    Step,
+    Node,
+    Binder,
+}
+
+fn wrong(file: &[u8], search: Search, i: usize) -> bool
+    ensures { λ r. ⌜ r ≡ wrong (read (now (file .entry))) search i ⌝ }
+{
+    match search {
+        Search::Step => step_wrong(file, i),
+        Search::Node => node_wrong(file, i),
+        Search::Binder => binder_wrong(file, i),
+    }
+}
+
+// The lowest of `count` places that is wrong, else `count`.
+pub(crate) fn first_wrong(file: &[u8], search: Search, count: usize) -> usize
+    ensures { λ r. ⌜ r ≡ first (wrong (read (now (file .entry))) search) 0 count ⌝ }
+{
+    let mut i = 0;
+    while i < count {
+        if wrong(file, search, i) {
+            return i;
+        }
+        i += 1;
+    }
+    i
+}

@@ -1,0 +1,221 @@
+// Vetting: refusals are tested in rising number, each test a step of a state that goes by value.
+ghost use mathlib.Core.Path.{_≡_};
+ghost use Rattle.case_model.specs.Bytes.{sections};
+ghost use Rattle.case_model.specs.Case.{read};
+ghost use Rattle.case_model.specs.Rows.{_orElse_, unless, row1, row2, row3, row4, row5, row6, row7, row8, refusals, sound};
+ghost use Rattle.case_model.specs.Replies.{accepting, replied};
+ghost use Rattle.case_file.specs.Told.{number, told, found, countsOf, Stage, Went, MayClose};
+use crate::bytes::word;
+use crate::frees::root_closed;
+use crate::parts::node_count;
+use crate::parts::state_count;
+use crate::parts::step_count;
+use crate::reason::Reason;
+use crate::reason::Refusal;
+use crate::tests::Search;
+use crate::tests::first_wrong;
+use crate::tests::labels_hold;
+use crate::tests::pairs_hold;
+use crate::tests::rule_holds;
+
+// An accepted case: how many states and nodes it has.
+pub struct Case {
+    states: usize,
+    nodes: usize,
+}
+
+impl Case {
+    // In bytes.
+    pub const LONGEST: usize = 6365;
+
+    pub const SECTIONS: usize = 3;
+
+    pub const STATES: usize = 16;
+
+    pub const NODES: usize = 64;
+
+    pub const ACTIONS: usize = 8;
+
+    pub const PROPOSITIONS: usize = 8;
+
+    pub const VARIABLES: usize = 16;
+
+    // The checked constructor: a case only of a file that none of refusals 1 to 7 meets.
+    pub fn new(file: &[u8]) -> Vetted
+        ensures { λ r. ⌜ told r ≡ accepting (now (file .entry)) ⌝ }
+    {
+        Vetting::rows(file).reply()
+    }
+
+    pub fn states(self) -> usize
+        ensures { λ r. ⌜ r ≡ self .states ⌝ }
+    {
+        self.states
+    }
+
+    pub fn nodes(self) -> usize
+        ensures { λ r. ⌜ r ≡ self .nodes ⌝ }
+    {
+        self.nodes
+    }
+}
+
+pub enum Vetted {
+    Case(Case),
+    Refused(Refusal),
+}
+
+pub(crate) enum Finding {
+    Sound,
+    Refused(Refusal),
+}
+
+// The counts of the file, and what the tests so far have found.
+pub(crate) struct Vetting {
+    case: Case,
+    finding: Finding,
+}
+
+// A refusal, unless the test passed.
+fn tested(holds: bool, reason: Reason, place: usize) -> Finding
+    ensures { λ r. ⌜ found r ≡ unless holds (number reason) place ⌝ }
+{
+    if holds {
+        Finding::Sound
+    } else {
+        Finding::Refused(Refusal { reason, place })
+    }
+}
+
+// What was found first.
+fn earlier(before: Finding, now: Finding) -> Finding
+    ensures { λ r. ⌜ found r ≡ found before orElse found now ⌝ }
+{
+    let Finding::Sound = before else {
+        return before;
+    };
+    now
+}
+
+impl Vetting {
+    fn begin(file: &[u8]) -> Vetting
+        ensures { λ r. ⌜ Stage (now (file .entry)) r sound ⌝ }
+    {
+        let case = Case {
+            states: state_count(file),
+            nodes: node_count(file),
+        };
+        Vetting {
+            case,
+            finding: Finding::Sound,
+        }
+    }
+
+    // Rows 1 to 7, in rising number.
+    pub(crate) fn rows(file: &[u8]) -> Vetting
+        ensures { λ r. ⌜ Stage (now (file .entry)) r (refusals (now (file .entry))) ⌝ }
+    {
+        Vetting::begin(file)
+            .pairs(file)
+            .labels(file)
+            .steps(file)
+            .rule(file)
+            .kinds(file)
+            .binders(file)
+            .closed(file)
+    }
+
+    pub(crate) fn reply(self) -> Vetted
+        ensures { λ r. ⌜ told r ≡ replied (found (self .finding)) (countsOf (self .case)) ⌝ }
+    {
+        let case = self.case;
+        let finding = self.finding;
+        match finding {
+            Finding::Sound => Vetted::Case(case),
+            Finding::Refused(refusal) => Vetted::Refused(refusal),
+        }
+    }
+
+    // The next state: what was found before stands.
+    fn unless(self, holds: bool, reason: Reason, place: usize) -> Vetting
+        ensures { λ r. ⌜ Went self r (unless holds (number reason) place) ⌝ }
+    {
+        let case = self.case;
+        let before = self.finding;
+        let now = tested(holds, reason, place);
+        let finding = earlier(before, now);
+        Vetting { case, finding }
+    }
+
+    fn pairs(self, file: &[u8]) -> Vetting
+        ensures { λ r. ⌜ Went self r (row1 (now (file .entry))) ⌝ }
+    {
+        self.unless(pairs_hold(file), Reason::Pairs, 0)
+    }
+
+    fn labels(self, file: &[u8]) -> Vetting
+        ensures { λ r. ⌜ Went self r (row2 (read (now (file .entry)))) ⌝ }
+    {
+        self.unless(labels_hold(file), Reason::Labels, 0)
+    }
+
+    fn steps(self, file: &[u8]) -> Vetting
+        ensures { λ r. ⌜ Went self r (row3 (now (file .entry)) (read (now (file .entry)))) ⌝ }
+    {
+        let finding = self.finding;
+        let Finding::Sound = finding else {
+            return self;
+        };
+        let count = step_count(file);
+        let bad = first_wrong(file, Search::Step, count);
+        self.unless(word(file, 6) % 3 == 0, Reason::Steps, 0)
+            .unless(bad == count, Reason::Steps, bad)
+    }
+
+    fn rule(self, file: &[u8]) -> Vetting
+        ensures { λ r. ⌜ Went self r (row4 (now (file .entry)) (read (now (file .entry)))) ⌝ }
+    {
+        self.unless(rule_holds(file), Reason::Rule, 0)
+    }
+
+    fn kinds(self, file: &[u8]) -> Vetting
+        ensures { λ r. ⌜ Went self r (row5 (read (now (file .entry)))) ⌝ }
+    {
+        let finding = self.finding;
+        let Finding::Sound = finding else {
+            return self;
+        };
+        let m = node_count(file);
+        let bad = first_wrong(file, Search::Node, m);
+        self.unless(bad == m, Reason::Node, bad)
+    }
+
+    fn binders(self, file: &[u8]) -> Vetting
+        ensures { λ r. ⌜ Went self r (row6 (read (now (file .entry)))) ⌝ }
+    {
+        let finding = self.finding;
+        let Finding::Sound = finding else {
+            return self;
+        };
+        let m = node_count(file);
+        let bad = first_wrong(file, Search::Binder, m);
+        self.unless(bad == m, Reason::Binder, bad)
+    }
+
+    fn closed(self, file: &[u8]) -> Vetting
+        requires { ⌜ MayClose self (read (now file)) ⌝ }
+        ensures { λ r. ⌜ Went self r (row7 (read (now (file .entry)))) ⌝ }
+    {
+        let finding = self.finding;
+        let Finding::Sound = finding else {
+            return self;
+        };
+        self.unless(root_closed(file), Reason::Free, 0)
+    }
+
+    pub(crate) fn section(self, section: usize) -> Vetting
+        ensures { λ r. ⌜ Went self r (row8 section sections) ⌝ }
+    {
+        self.unless(section < Case::SECTIONS, Reason::Beyond, 0)
+    }
+}

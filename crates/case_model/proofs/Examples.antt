@@ -1,0 +1,67 @@
+-- The examples of the table of refusals, rows 1 to 8, and case F's bytes, computed from the definitions.
+-- By computation: a slip in a row, or two rows exchanged, makes one of these equations false.
+use Prim.Native.Nat.{ℕ, suc}
+use mathlib.Core.List.{List, [], _∷_}
+use mathlib.Core.Path.{_≡_, refl}
+use lib.ListN.{replicate, set}
+use Rattle.flc.specs.Sets.{both, either, forAll, forSome, first}
+use Rattle.flc.specs.Formula.{free}
+use Rattle.flc.specs.Nodes.{lower, formulaAt}
+use Rattle.case_model.specs.Bytes.{listOf, chained, pairsHold, section, packed}
+use Rattle.case_model.specs.Case.{Triple, Case, write, kinds, nodeOf, nodeAt, rule}
+use Rattle.case_model.specs.Rows.{lowest, rootClosed, refusals}
+use Rattle.case_model.specs.Replies.{answers, refuses, vetting, opening}
+
+-- case F with other labels, steps, nodes or root
+abbrev caseOf : List ℕ → List Triple → List Triple → ℕ → List ℕ
+caseOf l s n r = write (record { labels = l; steps = s; nodes = n; root = r })
+
+abbrev labels : List ℕ
+labels = 0 ∷ 0 ∷ []
+
+abbrev steps : List Triple
+steps = (0, 0, 1) ∷ (1, 1, 1) ∷ []
+
+abbrev nodes : List Triple
+nodes =
+    (4, 0, 0) ∷ (4, 1, 0) ∷ (10, 0, 1) ∷ (10, 2, 0) ∷ (12, 1, 3) ∷ (6, 0, 0) ∷ (10, 5, 4) ∷ (6, 1, 0) ∷ (8, 7, 6) ∷ (11, 0, 8) ∷ []
+
+abbrev F : List ℕ
+F = caseOf labels steps nodes 9
+
+-- "Bytes: 12 0 2 0, 14 0 6 0, 20 0 31 0; 0 0; .."
+bytes : F ≡ 12 ∷ 0 ∷ 2 ∷ 0 ∷ 14 ∷ 0 ∷ 6 ∷ 0 ∷ 20 ∷ 0 ∷ 31 ∷ 0 ∷ 0 ∷ 0 ∷ 0 ∷ 0 ∷ 1 ∷ 1 ∷ 1 ∷ 1 ∷ 4 ∷ 0 ∷ 0 ∷ 4 ∷ 1 ∷ 0 ∷ 10 ∷ 0 ∷ 1 ∷ 10 ∷ 2 ∷ 0 ∷ 12 ∷ 1 ∷ 3 ∷ 6 ∷ 0 ∷ 0 ∷ 10 ∷ 5 ∷ 4 ∷ 6 ∷ 1 ∷ 0 ∷ 8 ∷ 7 ∷ 6 ∷ 11 ∷ 0 ∷ 8 ∷ 9 ∷ []
+unfolding write packed
+bytes = refl
+
+rows :
+    (vetting F 0 ≡ answers (record { states = 2; nodes = 10 }))
+    × (vetting [] 0 ≡ refuses 1 0)
+    × (vetting (caseOf (replicate 17 0) [] nodes 9) 0 ≡ refuses 2 0)
+    × (vetting (caseOf labels ((0, 0, 2) ∷ (1, 1, 1) ∷ []) nodes 9) 0 ≡ refuses 3 0)
+    × (vetting (caseOf labels ((1, 1, 1) ∷ (0, 0, 1) ∷ []) nodes 9) 0 ≡ refuses 3 1)
+    × (vetting (caseOf labels ((0, 0, 1) ∷ (0, 0, 1) ∷ []) nodes 9) 0 ≡ refuses 3 1)
+    × (vetting (caseOf labels steps nodes 10) 0 ≡ refuses 4 0)
+    × (vetting (caseOf labels steps (set nodes 2 (10, 0, 2)) 9) 0 ≡ refuses 5 2)
+    × (vetting (caseOf labels steps (set nodes 4 (12, 0, 3)) 9) 0 ≡ refuses 6 9)
+    × (vetting (caseOf labels steps nodes 4) 0 ≡ refuses 7 0)
+    × (vetting F 3 ≡ refuses 8 0)
+unfolding write packed vetting refusals pairsHold chained section listOf lowest first forAll forSome both either rootClosed rule formulaAt lower nodeAt nodeOf kinds free
+rows = (refl, refl, refl, refl, refl, refl, refl, refl, refl, refl, refl)
+
+-- where two rows are met, the lower number is told
+rising :
+    (vetting [] 3 ≡ refuses 1 0)
+    × (vetting (caseOf [] ((0, 0, 2) ∷ []) nodes 9) 0 ≡ refuses 2 0)
+    × (vetting (caseOf labels ((0, 8, 1) ∷ []) nodes 10) 0 ≡ refuses 3 0)
+    × (vetting (caseOf labels steps (set nodes 0 (13, 0, 0)) 10) 0 ≡ refuses 4 0)
+    × (vetting (caseOf labels steps (set (set nodes 4 (12, 0, 3)) 5 (6, 8, 0)) 9) 0 ≡ refuses 5 5)
+    × (vetting (caseOf labels steps (set nodes 4 (12, 0, 3)) 1) 0 ≡ refuses 6 9)
+    × (vetting (caseOf labels steps nodes 4) 3 ≡ refuses 7 0)
+unfolding write packed vetting refusals pairsHold chained section listOf lowest first forAll forSome both either rootClosed rule formulaAt lower nodeAt nodeOf kinds free
+rising = (refl, refl, refl, refl, refl, refl, refl)
+
+-- an opened section is its bytes; a refusal opens nothing
+parts : (opening F 1 ≡ 0 ∷ 0 ∷ 1 ∷ 1 ∷ 1 ∷ 1 ∷ []) × (opening F 3 ≡ [])
+unfolding write packed vetting opening refusals pairsHold chained section listOf lowest first forAll forSome both either rootClosed rule formulaAt lower nodeAt nodeOf kinds free
+parts = (refl, refl)

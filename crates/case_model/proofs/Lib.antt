@@ -1,0 +1,13 @@
+pub mod Examples
+pub mod Lists
+pub mod Tests
+pub mod Sections
+pub mod Codec
+pub mod NodeKinds
+pub mod Frees
+pub mod Valid
+pub mod Steps
+pub mod Nodes
+pub mod Accepting
+pub mod Written
+pub mod Places

@@ -1,0 +1,138 @@
+-- The nodes of a valid case: what each can be, and what follows for the nodes it names, for binders and for free variables.
+-- From the lines of the table of kinds, kind by kind; a variable of 16 and up stands in no node, so it is free in no tree.
+use Prim.Native.Nat.{ℕ, zero, suc, _≤_, _<_}
+use mathlib.Core.Bool.{Bool, true, false, _&&_, _||_, cond, or-false}
+use mathlib.Core.Logic.{inl, inr}
+use mathlib.Core.Path.{_≡_, sym, subst}
+use native.Mathlib.Decide.{decLt}
+use native.Mathlib.Omega.{arith}
+use borrow.Author.Tests.{eqb-true, ltb-true, le-leb, lt-leb, eq-eqb, ne-eqb}
+use lib.Dec.{T, eqb, leb, ltb, eqb→eq, T-not}
+use lib.ListN.{length}
+use Rattle.flc.specs.Sets.{forSome}
+use Rattle.flc.specs.Formula.{Atom, Op, Formula, atom, var, free}
+use Rattle.flc.specs.Nodes.{Node, leaf, two, bind, tree, lower, formulaAt}
+use Rattle.flc.proofs.Tests.{either-use, both-right, forAll-use, forSome-mk}
+use Rattle.flc.proofs.Unfolding.{Names, Lower}
+use Rattle.case_model.specs.Case.{Triple, Case, at, nodeOf, nodeAt, rule}
+use Rattle.case_model.specs.Rows.{variables, nodeHolds, binds, rootClosed}
+use Rattle.case_model.proofs.Tests.{is-true, and-l, and-r}
+use Rattle.case_model.proofs.NodeKinds.{Kind, constant, variable, pair, binder, beyond, kind}
+use Rattle.case_model.proofs.Valid.{Valid}
+
+-- the two last lines of the table of kinds, where the others cannot apply
+pub high-holds : (j : ℕ) (x : Triple) → 8 ≤ x .0
+    → nodeHolds j x ≡ ((leb (x .0) 10 && ltb (x .1) j && ltb (x .2) j) || (leb 11 (x .0) && leb (x .0) 12 && ltb (x .1) variables && ltb (x .2) j))
+high-holds j x h =
+    rw (
+      lt-leb (x .0) 1 (omega arith),
+      le-leb 2 (x .0) (omega arith),
+      lt-leb (x .0) 3 (omega arith),
+      ne-eqb (x .0) 4 (λ e. omega arith),
+      ne-eqb (x .0) 5 (λ e. omega arith),
+      le-leb 6 (x .0) (omega arith),
+      lt-leb (x .0) 7 (omega arith),
+      le-leb 8 (x .0) h,
+    )
+
+-- what node j can be
+pub data Fits (j : ℕ) : Node → Type 0 where
+  fits-constant : (x : Atom) → Fits j (leaf (atom x))
+  fits-variable : (v : ℕ) → v < variables → Fits j (leaf (var v))
+  fits-pair : (o : Op) (a b : ℕ) → a < j → b < j → Fits j (two o a b)
+  fits-binder : (d : Bool) (v b : ℕ) → v < variables → b < j → Fits j (bind d v b)
+
+-- a line of the table of kinds says so
+pub holds-fits : (j : ℕ) (x : Triple) → nodeHolds j x ≡ true → Fits j (nodeOf x)
+holds-fits j x e = go (nodeOf x) (kind x)
+  where
+    go : (n : Node) → Kind (x .0) (x .1) (x .2) n → Fits j n
+    go _ (constant y h n) = fits-constant y
+    go _ (variable q) =
+        let r : (ltb (x .1) variables && eqb (x .2) 0) ≡ true = simp or-false at (rw q at e) in
+        fits-variable (x .1) (ltb-true _ _ (search and-l))
+    go _ (pair o l h) =
+        let r : (ltb (x .1) j && ltb (x .2) j) ≡ true = rw (high-holds j x l, le-leb (x .0) 10 h, lt-leb 11 (x .0) (omega arith), or-false) at e in
+        fits-pair o (x .1) (x .2) (ltb-true _ _ (search and-l)) (ltb-true _ _ (search and-r))
+    go _ (binder d l h) =
+        let r : (ltb (x .1) variables && ltb (x .2) j) ≡ true = rw (high-holds j x (omega arith), lt-leb (x .0) 10 (omega arith), le-leb 11 (x .0) l, le-leb (x .0) 12 h) at e in
+        fits-binder d (x .1) (x .2) (ltb-true _ _ (search and-l)) (ltb-true _ _ (search and-r))
+    go _ (beyond l) = fits-constant _
+
+-- the nodes that it names
+fits-names : {j : ℕ} (n : Node) → Fits j n → (i : ℕ) → Names n i → i < j
+fits-names _ (fits-constant x) i h = absurd h
+fits-names _ (fits-variable v l) i h = absurd h
+fits-names _ (fits-pair o a b p q) i (inl e) = omega arith
+fits-names _ (fits-pair o a b p q) i (inr e) = omega arith
+fits-names _ (fits-binder d v b p q) i e = omega arith
+
+-- a variable of 16 and up is free in no node's tree that is made of trees without it
+fits-free : {j : ℕ} (w : ℕ) → variables ≤ w → (n : Node) → Fits j n → (φ : ℕ → Formula) → ((i : ℕ) → T (free w (φ i)) → ⊥) → T (free w (tree n φ)) → ⊥
+unfolding free
+fits-free w h _ (fits-constant x) φ f t = t
+fits-free w h _ (fits-variable v l) φ f t = let e = eqb→eq w v t in omega arith
+fits-free w h _ (fits-pair o a b p q) φ f t = either-use _ _ (f a) (f b) t
+fits-free w h _ (fits-binder d v b p q) φ f t = f b (both-right _ _ t)
+
+-- a node that is a binder has a binder's kind and its variable
+bind-binds : (x : Triple) (d : Bool) (v b : ℕ) → nodeOf x ≡ bind d v b → binds x v ≡ true
+bind-binds x d v b e = go (nodeOf x) (kind x) e
+  where
+    go : (n : Node) → Kind (x .0) (x .1) (x .2) n → n ≡ bind d v b → binds x v ≡ true
+    go _ (constant y h n) e = cc
+    go _ (variable q) e = cc
+    go _ (pair o l h) e = cc
+    go _ (binder d l h) e = rw (le-leb 11 (x .0) l) (eq-eqb (x .1) v (cc))
+    go _ (beyond l) e = cc
+
+module _ {c : Case} (valid : Valid c) where
+  pub node-fits : (j : ℕ) → j < length (c .nodes) → Fits j (nodeAt c j)
+  unfolding nodeAt
+  node-fits j h = holds-fits j (at (c .nodes) j) (valid .kinds j h)
+
+  pub node-lower : (j : ℕ) → j < length (c .nodes) → Lower (nodeAt c) j
+  node-lower j h = fits-names (nodeAt c j) (node-fits j h)
+
+  -- no two binders of one variable
+  apart : (i j v : ℕ) → i < j → j < length (c .nodes) → binds (at (c .nodes) i) v ≡ true → binds (at (c .nodes) j) v ≡ true → ⊥
+  apart i j v l h p q =
+      let x : Triple = at (c .nodes) j in
+      let e : x .1 ≡ v = eqb-true (x .1) v (search and-r) in
+      let k : leb 11 (x .0) ≡ true = search and-l in
+      let s : forSome j (λ i. binds (at (c .nodes) i) (x .1)) ≡ true = is-true _ (forSome-mk j _ i l (rw (e, p) tt)) in
+      let z : _≡_ {A = ℕ} 0 1 = cc (valid .binders j h) in
+      omega arith
+
+  -- a variable has one binder
+  pub one-binder : {d d′ : Bool} {v b b′ : ℕ} (i j : ℕ) → i < length (c .nodes) → j < length (c .nodes)
+      → nodeAt c i ≡ bind d v b → nodeAt c j ≡ bind d′ v b′ → i ≡ j
+  unfolding nodeAt
+  one-binder {d} {d′} {v} {b} {b′} i j h k p q =
+      let p′ = bind-binds (at (c .nodes) i) d v b p in
+      let q′ = bind-binds (at (c .nodes) j) d′ v b′ q in
+      elim (decLt i j) [
+        | yes l ↦ absurd (apart i j v l k p′ q′)
+        | no l ↦ elim (decLt j i) [
+          | yes l′ ↦ absurd (apart j i v l′ h q′ p′)
+          | no l′ ↦ omega arith
+        ]
+      ]
+
+  -- no variable of 16 and up in the trees below node j
+  free-below : (w : ℕ) → variables ≤ w → (j : ℕ) → j ≤ length (c .nodes) → (i : ℕ) → T (free w (lower (nodeAt c) j i)) → ⊥
+  unfolding lower free
+  free-below w h zero k i t = t
+  free-below w h (suc j) k i t = elim (eqb i j) as (λ b. T (free w (cond b (tree (nodeAt c j) (lower (nodeAt c) j)) (lower (nodeAt c) j i))) → ⊥) [
+    | true ↦ fits-free w h (nodeAt c j) (node-fits j k) (lower (nodeAt c) j) (free-below w h j (omega arith))
+    | false ↦ free-below w h j (omega arith) i
+  ] t
+
+  -- the root has no free variable of any number
+  pub closed-all : (w : ℕ) → T (free w (rule c)) → ⊥
+  unfolding rule formulaAt rootClosed
+  closed-all w t = elim (decLt w variables) [
+    | yes h ↦ T-not (free w (rule c)) (forAll-use variables _ (subst T (sym (valid .closed)) tt) w h) t
+    | no h ↦ fits-free w (omega arith) (nodeAt c (c .root)) (node-fits (c .root) (valid .root)) (lower (nodeAt c) (c .root))
+        (free-below w (omega arith) (c .root) (omega (arith, valid .root))) t
+  ]

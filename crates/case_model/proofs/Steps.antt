@@ -1,0 +1,108 @@
+-- The steps of a valid case are in range and strictly rising, so there are at most 2048 of them.
+-- A triple in range is ordered as its number, 128 from + 16 action + to, and step i has a number of at least i.
+use Prim.Native.Nat.{ℕ, zero, suc, _+_, _*_, _-_, _≤_, _<_, suc-le-suc}
+use mathlib.Core.Bool.{Bool, true, false, _&&_, _||_}
+use mathlib.Core.List.{List, [], _∷_}
+use mathlib.Core.Path.{_≡_, refl, sym, subst}
+use native.Mathlib.Decide.{decLt, ℕ-discrete}
+use native.Mathlib.Nat.{not-suc-le-zero}
+use native.Mathlib.Omega.{arith}
+use borrow.Author.Tests.{eqb-true, ltb-true, not-false, lt-ltb, le-ltb, eq-eqb, ne-eqb}
+use lib.Dec.{T, eqb, ltb, eqb→eq}
+use lib.ListN.{length}
+use Rattle.flc.specs.Bisimulation.{actions}
+use Rattle.flc.proofs.Tests.{both-left, both-right, either-use}
+use Rattle.case_model.specs.Case.{Triple, Case, listed, at}
+use Rattle.case_model.specs.Rows.{rises, stepWrong}
+use Rattle.case_model.proofs.Tests.{and-l, and-r}
+use Rattle.case_model.proofs.Valid.{Valid}
+
+-- a step between n states
+pub record InRange (n : ℕ) (x : Triple) : Type 0 where
+  pub from : x .0 < n
+  pub action : x .1 < actions
+  pub to : x .2 < n
+
+-- ---- the order
+-- a number below 2048 for a triple of a case
+abbrev pub number : Triple → ℕ
+number x = 128 * x .0 + 16 * x .1 + x .2
+
+-- one of two tests passed
+or-use : {P : Type 0} (a b : Bool) → (a || b) ≡ true → (a ≡ true → P) → (b ≡ true → P) → P
+or-use true b e f g = f refl
+or-use false b e f g = g e
+
+-- the order of triples in range is the order of their numbers
+module _ {n : ℕ} (few : n ≤ 16) (x y : Triple) (rx : InRange n x) (ry : InRange n y) where
+  pub rises-number : rises x y ≡ true → number x < number y
+  rises-number e =
+      or-use (ltb (x .0) (y .0)) (eqb (x .0) (y .0) && (ltb (x .1) (y .1) || (eqb (x .1) (y .1) && ltb (x .2) (y .2)))) e
+      (λ l. omega (arith, ltb-true (x .0) (y .0) l))
+      (λ e0. or-use (ltb (x .1) (y .1)) (eqb (x .1) (y .1) && ltb (x .2) (y .2)) (search and-r)
+      (λ l. let p = eqb-true (x .0) (y .0) (search and-l) in omega (arith, ltb-true (x .1) (y .1) l))
+      (λ e1. let p = eqb-true (x .0) (y .0) (search and-l) in let q = eqb-true (x .1) (y .1) (search and-l) in omega (arith, ltb-true (x .2) (y .2) (search and-r))))
+
+  pub number-rises : number x < number y → rises x y ≡ true
+  number-rises h = elim (decLt (x .0) (y .0)) [
+    | yes l ↦ rw (lt-ltb (x .0) (y .0) l)
+    | no l ↦ rw (le-ltb (x .0) (y .0) (omega arith), eq-eqb (x .0) (y .0) (omega arith)) (elim (decLt (x .1) (y .1)) [
+      | yes k ↦ rw (lt-ltb (x .1) (y .1) k)
+      | no k ↦ rw (le-ltb (x .1) (y .1) (omega arith), eq-eqb (x .1) (y .1) (omega arith), lt-ltb (x .2) (y .2) (omega arith))
+    ])
+  ]
+
+-- ---- the steps of a valid case
+-- a step in the list has a place there
+pub listed-at : (l : List Triple) (s a t : ℕ) → T (listed l s a t) → (i : ℕ) × (i < length l) × (at l i ≡ (s, a, t))
+unfolding listed
+listed-at [] s a t h = absurd h
+listed-at (x ∷ l) s a t h = either-use _ _
+    (λ e. let r = both-right _ _ e in (0, omega arith, λ z. (eqb→eq (x .0) s (both-left _ _ e) z, eqb→eq (x .1) a (both-left _ _ r) z, eqb→eq (x .2) t (both-right _ _ r) z)))
+    (λ r. let (i, k, e) = listed-at l s a t r in (suc i, suc-le-suc k, e)) h
+
+-- from a test that says what is wrong to each part of what is right
+ruleset tests = (not-false, and-l, and-r)
+
+module _ {c : Case} (valid : Valid c) where
+  pub step-in : (i : ℕ) → i < length (c .steps) → InRange (length (c .labels)) (at (c .steps) i)
+  step-in i h =
+      let e : stepWrong c i ≡ false = valid .steps i h in
+      record { from = ltb-true _ _ (search tests); action = ltb-true _ _ (search tests); to = ltb-true _ _ (search tests) }
+
+  -- a step and the next
+  pub step-next : (i : ℕ) → suc i < length (c .steps) → number (at (c .steps) i) < number (at (c .steps) (suc i))
+  step-next i h =
+      let e : stepWrong c (suc i) ≡ false = valid .steps (suc i) h in
+      let r : (eqb (suc i) 0 || rises (at (c .steps) (suc i - 1)) (at (c .steps) (suc i))) ≡ true = search tests in
+      let p : suc i - 1 ≡ i = omega arith in
+      let z : eqb (suc i) 0 ≡ false = ne-eqb (suc i) 0 (λ q. omega arith) in
+      rises-number (valid .few) (at (c .steps) i) (at (c .steps) (suc i)) (step-in i (omega arith)) (step-in (suc i) h) (rw (p, z) at r)
+
+  pub numbers-rise : (i j : ℕ) → i < j → j < length (c .steps) → number (at (c .steps) i) < number (at (c .steps) j)
+  numbers-rise i zero l h = absurd (not-suc-le-zero l)
+  numbers-rise i (suc j) l h = elim (ℕ-discrete i j) [
+    | yes e ↦ rw e (step-next j h)
+    | no n ↦ omega (arith, numbers-rise i j (omega arith) (omega arith), step-next j h)
+  ]
+
+  -- an earlier step is strictly before a later one
+  pub steps-rise : (i j : ℕ) → i < j → j < length (c .steps) → T (rises (at (c .steps) i) (at (c .steps) j))
+  steps-rise i j l h =
+      subst T (sym (number-rises (valid .few) _ _ (step-in i (omega arith)) (step-in j h) (numbers-rise i j l h))) tt
+
+  number-least : (i : ℕ) → i < length (c .steps) → i ≤ number (at (c .steps) i)
+  number-least zero h = omega arith
+  number-least (suc i) h = omega (arith, number-least i (omega arith), step-next i h)
+
+  pub steps-few : length (c .steps) ≤ 2048
+  steps-few = elim (decLt 0 (length (c .steps))) [
+    | yes h ↦
+        let i : ℕ = length (c .steps) - 1 in
+        omega (arith, number-least i (omega arith), step-in i (omega arith), valid .few)
+    | no h ↦ omega arith
+  ]
+
+  -- a transition of the table
+  pub listed-in : (s a t : ℕ) → T (listed (c .steps) s a t) → InRange (length (c .labels)) (s, a, t)
+  listed-in s a t h = let (i, k, e) = listed-at (c .steps) s a t h in subst (InRange (length (c .labels))) e (step-in i k)

@@ -1,0 +1,59 @@
+-- The bytes of a case file, its pairs and its sections, over any list of bytes. Document 01, "The case file".
+use Prim.Native.Nat.{ℕ, zero, suc, _+_, _*_, _/_, _%_}
+use mathlib.Core.Bool.{Bool, _&&_}
+use mathlib.Core.List.{List, [], _∷_, _++_}
+use lib.ListN.{length, getD}
+use lib.Dec.{eqb, leb}
+
+-- "The longest case is 6,365 bytes." "Three pairs come first"
+abbrev pub longest : ℕ
+longest = 6365
+
+abbrev pub sections : ℕ
+sections = 3
+
+-- h 0, h 1, .. h (k - 1)
+unfoldable pub listOf {ℓ} : {A : Type ℓ} → ℕ → (ℕ → A) → List A
+listOf zero h = []
+listOf (suc k) h = h zero ∷ listOf k (λ i. h (suc i))
+
+-- the byte at a position, 0 past the end
+abbrev pub byteAt : List ℕ → ℕ → ℕ
+byteAt f at = getD f at 0
+
+-- "A pair is an offset and a length, each two bytes, low byte first."
+abbrev pub wordAt : List ℕ → ℕ → ℕ
+wordAt f at = byteAt f at + 256 * byteAt f (at + 1)
+
+abbrev pub offset : List ℕ → ℕ → ℕ
+offset f k = wordAt f (4 * k)
+
+abbrev pub size : List ℕ → ℕ → ℕ
+size f k = wordAt f (4 * k + 2)
+
+-- "each next one is where the section before ends, and the last section ends with the file": c sections from section k on, the first at `at`
+unfoldable pub chained : List ℕ → ℕ → ℕ → ℕ → Bool
+chained f at k zero = eqb at (length f)
+chained f at k (suc c) = eqb (offset f k) at && chained f (at + size f k) (suc k) c
+
+-- "The first offset is 12"
+unfoldable pub pairsHold : List ℕ → Bool
+pairsHold f = leb (4 * sections) (length f) && leb (length f) longest && chained f (4 * sections) 0 sections
+
+unfoldable pub section : List ℕ → ℕ → List ℕ
+section f k = listOf (size f k) (λ i. byteAt f (offset f k + i))
+
+-- ---- writing: a pair for each section, the first section at `at`; then the sections
+abbrev pub word : ℕ → List ℕ
+word x = x % 256 ∷ x / 256 ∷ []
+
+abbrev pub pairs : ℕ → List (List ℕ) → List ℕ
+pairs at [] = []
+pairs at (s ∷ l) = word at ++ (word (length s) ++ pairs (at + length s) l)
+
+abbrev pub joined : List (List ℕ) → List ℕ
+joined [] = []
+joined (s ∷ l) = s ++ joined l
+
+unfoldable pub packed : List (List ℕ) → List ℕ
+packed l = pairs (4 * length l) l ++ joined l

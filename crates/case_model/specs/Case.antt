@@ -1,0 +1,76 @@
+-- A case as data: how it is read from a file, how it is written, its state table and its rule. Document 01, "The case file".
+use Prim.Native.Nat.{ℕ, _+_, _*_, _/_}
+use mathlib.Core.Bool.{Bool, true, false}
+use mathlib.Core.List.{List, [], _∷_, _++_}
+use lib.ListN.{length, getD}
+use lib.Dec.{eqb}
+use Rattle.flc.specs.Sets.{both, either}
+use Rattle.flc.specs.Formula.{Table, atom, top, bottom, tau, prop, nprop, dia, box, Formula, var, or, and, chop}
+use Rattle.flc.specs.Nodes.{Node, leaf, two, bind, formulaAt}
+use Rattle.case_model.specs.Bytes.{listOf, byteAt, offset, size, section, packed}
+
+abbrev pub Triple : Type 0
+Triple = ℕ × ℕ × ℕ
+
+pub record Case : Type 0 where
+  pub labels : List ℕ
+  pub steps : List Triple
+  pub nodes : List Triple
+  pub root : ℕ
+
+-- ---- reading and writing
+abbrev pub tripleAt : List ℕ → ℕ → Triple
+tripleAt f at = (byteAt f at, byteAt f (at + 1), byteAt f (at + 2))
+
+-- the whole triples of section k
+abbrev pub triples : List ℕ → ℕ → List Triple
+triples f k = listOf (size f k / 3) (λ i. tripleAt f (offset f k + 3 * i))
+
+-- "Section 0, labels", "Section 1, steps", "Section 2, rule: .. nodes of three bytes (kind, A, B), then one byte, the root's node number."
+abbrev pub read : List ℕ → Case
+read f = record {
+  labels = section f 0;
+  steps = triples f 1;
+  nodes = triples f 2;
+  root = byteAt f (offset f 2 + 3 * (size f 2 / 3));
+}
+
+abbrev pub flat : List Triple → List ℕ
+flat [] = []
+flat (t ∷ l) = t .0 ∷ t .1 ∷ t .2 ∷ flat l
+
+unfoldable pub write : Case → List ℕ
+write c = packed (c .labels ∷ flat (c .steps) ∷ (flat (c .nodes) ++ (c .root ∷ [])) ∷ [])
+
+-- ---- the state table
+-- (s, a, t) is in the list
+unfoldable pub listed : List Triple → ℕ → ℕ → ℕ → Bool
+listed [] s a t = false
+listed (x ∷ l) s a t = either (both (eqb (x .0) s) (both (eqb (x .1) a) (eqb (x .2) t))) (listed l s a t)
+
+unfoldable pub table : Case → Table
+table c = record { n = length (c .labels); label = λ s. getD (c .labels) s 0; step = listed (c .steps) }
+
+-- ---- the rule
+abbrev pub at : List Triple → ℕ → Triple
+at l i = getD l i (0, 0, 0)
+
+-- kinds 0 to 12 with A and B
+unfoldable pub kinds : ℕ → ℕ → List Node
+kinds a b =
+    leaf (atom top) ∷ leaf (atom bottom)
+    ∷ leaf (atom (prop a)) ∷ leaf (atom (nprop a))
+    ∷ leaf (var a)
+    ∷ leaf (atom tau)
+    ∷ leaf (atom (dia a)) ∷ leaf (atom (box a))
+    ∷ two or a b ∷ two and a b ∷ two chop a b
+    ∷ bind true a b ∷ bind false a b ∷ []
+
+unfoldable pub nodeOf : Triple → Node
+nodeOf t = getD (kinds (t .1) (t .2)) (t .0) (leaf (atom bottom))
+
+unfoldable pub nodeAt : Case → ℕ → Node
+nodeAt c j = nodeOf (at (c .nodes) j)
+
+unfoldable pub rule : Case → Formula
+rule c = formulaAt (nodeAt c) (c .root)

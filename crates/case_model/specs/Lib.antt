@@ -1,0 +1,5 @@
+pub mod Bytes
+pub mod Case
+pub mod Rows
+pub mod Replies
+pub mod Judging

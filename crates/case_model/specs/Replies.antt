@@ -1,0 +1,50 @@
+-- What the entries reply. Document 01: "A reply is an answer, or a refusal with number and place."
+use Prim.Native.Nat.{ℕ, _+_}
+use mathlib.Core.List.{List, []}
+use mathlib.Core.Path.{_≡_}
+use lib.ListN.{length}
+use denote.Ref.{RefT, now, ptr}
+use Rattle.case_model.specs.Bytes.{offset, sections, section}
+use Rattle.case_model.specs.Case.{Case, read}
+use Rattle.case_model.specs.Rows.{Found, sound, refused, _orElse_, row8, refusals}
+
+pub data Reply (A : Type 0) : Type 0 where
+  answers : A → Reply A
+  refuses : ℕ → ℕ → Reply A
+
+abbrev pub replied : {A : Type 0} → Found → A → Reply A
+replied sound a = answers a
+replied (refused k p) a = refuses k p
+
+-- "it takes the file and a section number, 0 to 2, and answers n and m"
+pub record Counts : Type 0 where
+  pub states : ℕ
+  pub nodes : ℕ
+
+abbrev pub counts : Case → Counts
+counts c = record { states = length (c .labels); nodes = length (c .nodes) }
+
+-- a case of a file that none of refusals 1 to 7 meets
+unfoldable pub accepting : List ℕ → Reply Counts
+accepting f = replied (refusals f) (counts (read f))
+
+unfoldable pub vetting : List ℕ → ℕ → Reply Counts
+vetting f k = replied (refusals f orElse row8 k sections) (counts (read f))
+
+-- "Opening hands back a section as that part of the lent file, not a copy; where it refuses, the part is empty."
+abbrev pub opened : {A B : Type 0} → Reply A → B → B → B
+opened (answers a) part empty = part
+opened (refuses k p) part empty = empty
+
+unfoldable pub opening : List ℕ → ℕ → List ℕ
+opening f k = opened (vetting f k) (section f k) []
+
+-- where the part begins in the file
+unfoldable pub openedAt : List ℕ → ℕ → ℕ
+openedAt f k = opened (vetting f k) (offset f k) 0
+
+-- the part r of the lent file: its bytes, and its place in that file
+pub record Opened (file r : RefT (List ℕ)) (k : ℕ) : Type 0 where
+  pub bytes : now r ≡ opening (now file) k
+  pub block : ptr r .0 ≡ ptr file .0
+  pub place : ptr r .1 ≡ ptr file .1 + openedAt (now file) k

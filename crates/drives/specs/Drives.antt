@@ -1,0 +1,154 @@
+-- The starred drives of document 01, "Drives to try", as one table, and what each of them claims.
+-- A set is a number, "bit i is state i": {3, 7} is 8 + 128 = 136, {3, 6} is 72, and all of n states is 2 ^ n - 1. The drives without a star are tests.
+use mathlib.Core.Path.{_≡_}
+use mathlib.Core.List.{List, [], _∷_}
+use Prim.Native.Nat.{ℕ}
+use Rattle.flc.specs.Formula.{mean, none}
+use Rattle.flc.specs.Nodes.{lower, approximantOf, roundsAt}
+use Rattle.case_model.specs.Case.{Case, read, table, nodeAt, rule}
+use Rattle.case_model.specs.Rows.{sound, refusals}
+
+pub record Drive : Type 0 where
+  -- the bytes of the case file: pairs, labels, steps, nodes, root
+  pub file : List ℕ
+  -- its rounds; none listed where document 01 says none. "It is 0 where the root is no binder."
+  pub rounds : List ℕ
+  -- set, and the rule's value there
+  pub values : List (ℕ × ℕ)
+  -- k, set, and the value of approximant k there
+  pub approximants : List (ℕ × ℕ × ℕ)
+
+-- P holds of each element
+abbrev pub Each : {A : Type 0} → (A → Type 0) → List A → Type 0
+Each P [] = Unit {0}
+Each P (a ∷ l) = P a × Each P l
+
+-- the file is accepted, and its case c has the rounds, values and approximants listed
+pub record Shows (d : Drive) (c : Case) : Type 0 where
+  pub accepted : refusals (d .file) ≡ sound
+  pub counts : Each (λ k. roundsAt (table c) (nodeAt c) (c .root) ≡ k) (d .rounds)
+  pub gives : Each (λ (x, y). mean (table c) (rule c) none x ≡ y) (d .values)
+  pub approaches : Each (λ (k, x, y). approximantOf (table c) (nodeAt c (c .root)) (lower (nodeAt c) (c .root)) k x ≡ y) (d .approximants)
+
+abbrev pub Right : Drive → Type 0
+Right d = Shows d (read (d .file))
+
+unfoldable pub drives : List Drive
+drives =
+    -- Case F, rule μY.⟨b⟩ or ⟨a⟩;νZ.Y;Z;Y. "★ F on all: {0, 1}. ★ F on the empty set: {0}." Its print: "rounds 2"
+    record {
+      file =
+          12 ∷ 0 ∷ 2 ∷ 0 ∷ 14 ∷ 0 ∷ 6 ∷ 0 ∷ 20 ∷ 0 ∷ 31 ∷ 0
+          ∷ 0 ∷ 0
+          ∷ 0 ∷ 0 ∷ 1 ∷ 1 ∷ 1 ∷ 1
+          ∷ 4 ∷ 0 ∷ 0 ∷ 4 ∷ 1 ∷ 0 ∷ 10 ∷ 0 ∷ 1 ∷ 10 ∷ 2 ∷ 0 ∷ 12 ∷ 1 ∷ 3 ∷ 6 ∷ 0 ∷ 0 ∷ 10 ∷ 5 ∷ 4 ∷ 6 ∷ 1 ∷ 0 ∷ 8 ∷ 7 ∷ 6 ∷ 11 ∷ 0 ∷ 8
+          ∷ 9 ∷ [];
+      rounds = 2 ∷ [];
+      values = (3, 3) ∷ (0, 1) ∷ [];
+      approximants = [];
+    } ∷
+    -- "★ Two wheels: .. Rule μZ.(⟨1⟩ and ⟨2⟩) or Z;⟨0⟩. On {3, 7}: {0}, which approximant 11 lacks and 12 has. Rounds 12 with 8 states.
+    -- On {3, 6}: {0}. On the empty set: empty."
+    record {
+      file =
+          12 ∷ 0 ∷ 8 ∷ 0 ∷ 20 ∷ 0 ∷ 27 ∷ 0 ∷ 47 ∷ 0 ∷ 25 ∷ 0
+          ∷ 0 ∷ 0 ∷ 0 ∷ 0 ∷ 0 ∷ 0 ∷ 0 ∷ 0
+          ∷ 0 ∷ 1 ∷ 1 ∷ 0 ∷ 2 ∷ 4 ∷ 1 ∷ 0 ∷ 2 ∷ 2 ∷ 0 ∷ 3 ∷ 3 ∷ 0 ∷ 1 ∷ 4 ∷ 0 ∷ 5 ∷ 5 ∷ 0 ∷ 6 ∷ 6 ∷ 0 ∷ 7 ∷ 7 ∷ 0 ∷ 4
+          ∷ 6 ∷ 1 ∷ 0 ∷ 6 ∷ 2 ∷ 0 ∷ 9 ∷ 0 ∷ 1 ∷ 4 ∷ 0 ∷ 0 ∷ 6 ∷ 0 ∷ 0 ∷ 10 ∷ 3 ∷ 4 ∷ 8 ∷ 2 ∷ 5 ∷ 11 ∷ 0 ∷ 6
+          ∷ 7 ∷ [];
+      rounds = 12 ∷ [];
+      values = (136, 1) ∷ (72, 1) ∷ (0, 0) ∷ [];
+      approximants = (11, 136, 0) ∷ (12, 136, 1) ∷ [];
+    } ∷
+    -- "★ Document 004, example 4 ..: νZ.μY.(⟨a⟩;Z) and ([b];(Y or τ);⟨b⟩), with 0 -a- 0, 0 -b- 1, 1 -b- 0; on all: {0}." Here a = 0, b = 1, Z = 0, Y = 1
+    record {
+      file =
+          12 ∷ 0 ∷ 2 ∷ 0 ∷ 14 ∷ 0 ∷ 9 ∷ 0 ∷ 23 ∷ 0 ∷ 40 ∷ 0
+          ∷ 0 ∷ 0
+          ∷ 0 ∷ 0 ∷ 0 ∷ 0 ∷ 1 ∷ 1 ∷ 1 ∷ 1 ∷ 0
+          ∷ 6 ∷ 0 ∷ 0 ∷ 4 ∷ 0 ∷ 0 ∷ 10 ∷ 0 ∷ 1 ∷ 7 ∷ 1 ∷ 0 ∷ 4 ∷ 1 ∷ 0 ∷ 5 ∷ 0 ∷ 0 ∷ 8 ∷ 4 ∷ 5 ∷ 10 ∷ 3 ∷ 6 ∷ 6 ∷ 1 ∷ 0 ∷ 10 ∷ 7 ∷ 8 ∷ 9 ∷ 2 ∷ 9 ∷ 11 ∷ 1 ∷ 10 ∷ 12 ∷ 0 ∷ 11
+          ∷ 12 ∷ [];
+      rounds = [];
+      values = (3, 1) ∷ [];
+      approximants = [];
+    } ∷
+    -- "★ One state, no steps, on the empty set: [0] gives {0}"
+    record {
+      file =
+          12 ∷ 0 ∷ 1 ∷ 0 ∷ 13 ∷ 0 ∷ 0 ∷ 0 ∷ 13 ∷ 0 ∷ 4 ∷ 0
+          ∷ 0
+          ∷ 7 ∷ 0 ∷ 0
+          ∷ 0 ∷ [];
+      rounds = 0 ∷ [];
+      values = (0, 1) ∷ [];
+      approximants = [];
+    } ∷
+    -- "★ ⟨0⟩ gives the empty set"
+    record {
+      file =
+          12 ∷ 0 ∷ 1 ∷ 0 ∷ 13 ∷ 0 ∷ 0 ∷ 0 ∷ 13 ∷ 0 ∷ 4 ∷ 0
+          ∷ 0
+          ∷ 6 ∷ 0 ∷ 0
+          ∷ 0 ∷ [];
+      rounds = 0 ∷ [];
+      values = (0, 0) ∷ [];
+      approximants = [];
+    } ∷
+    -- "★ τ gives the empty set."
+    record {
+      file =
+          12 ∷ 0 ∷ 1 ∷ 0 ∷ 13 ∷ 0 ∷ 0 ∷ 0 ∷ 13 ∷ 0 ∷ 4 ∷ 0
+          ∷ 0
+          ∷ 5 ∷ 0 ∷ 0
+          ∷ 0 ∷ [];
+      rounds = 0 ∷ [];
+      values = (0, 0) ∷ [];
+      approximants = [];
+    } ∷
+    -- "★ μZ.Z: empty, rounds 0." One state, both sets
+    record {
+      file =
+          12 ∷ 0 ∷ 1 ∷ 0 ∷ 13 ∷ 0 ∷ 0 ∷ 0 ∷ 13 ∷ 0 ∷ 7 ∷ 0
+          ∷ 0
+          ∷ 4 ∷ 0 ∷ 0 ∷ 11 ∷ 0 ∷ 0
+          ∷ 1 ∷ [];
+      rounds = 0 ∷ [];
+      values = (0, 0) ∷ (1, 0) ∷ [];
+      approximants = [];
+    } ∷
+    -- "★ νZ.Z: all, rounds 0." One state, both sets
+    record {
+      file =
+          12 ∷ 0 ∷ 1 ∷ 0 ∷ 13 ∷ 0 ∷ 0 ∷ 0 ∷ 13 ∷ 0 ∷ 7 ∷ 0
+          ∷ 0
+          ∷ 4 ∷ 0 ∷ 0 ∷ 12 ∷ 0 ∷ 0
+          ∷ 1 ∷ [];
+      rounds = 0 ∷ [];
+      values = (0, 1) ∷ (1, 1) ∷ [];
+      approximants = [];
+    } ∷
+    -- "★ Steps (0,0,1), (0,0,2); 1 has proposition 0, 2 has proposition 1. ⟨0⟩;(p0 and p1): empty." On all
+    record {
+      file =
+          12 ∷ 0 ∷ 3 ∷ 0 ∷ 15 ∷ 0 ∷ 6 ∷ 0 ∷ 21 ∷ 0 ∷ 16 ∷ 0
+          ∷ 0 ∷ 1 ∷ 2
+          ∷ 0 ∷ 0 ∷ 1 ∷ 0 ∷ 0 ∷ 2
+          ∷ 6 ∷ 0 ∷ 0 ∷ 2 ∷ 0 ∷ 0 ∷ 2 ∷ 1 ∷ 0 ∷ 9 ∷ 1 ∷ 2 ∷ 10 ∷ 0 ∷ 3
+          ∷ 4 ∷ [];
+      rounds = 0 ∷ [];
+      values = (7, 0) ∷ [];
+      approximants = [];
+    } ∷
+    -- "★ (⟨0⟩;p0) and (⟨0⟩;p1): {0}." The same table, on all
+    record {
+      file =
+          12 ∷ 0 ∷ 3 ∷ 0 ∷ 15 ∷ 0 ∷ 6 ∷ 0 ∷ 21 ∷ 0 ∷ 19 ∷ 0
+          ∷ 0 ∷ 1 ∷ 2
+          ∷ 0 ∷ 0 ∷ 1 ∷ 0 ∷ 0 ∷ 2
+          ∷ 6 ∷ 0 ∷ 0 ∷ 2 ∷ 0 ∷ 0 ∷ 2 ∷ 1 ∷ 0 ∷ 10 ∷ 0 ∷ 1 ∷ 10 ∷ 0 ∷ 2 ∷ 9 ∷ 3 ∷ 4
+          ∷ 5 ∷ [];
+      rounds = 0 ∷ [];
+      values = (7, 1) ∷ [];
+      approximants = [];
+    } ∷
+    []

@@ -1,0 +1,205 @@
+-- The definitions computed on tables of one to three states: a slip in one of them is a false equation here.
+-- Every proof is refl.
+use mathlib.Core.Path.{_≡_, refl}
+use mathlib.Core.Bool.{Bool, true, false, not}
+use Prim.Native.Nat.{ℕ, zero, suc, _-_}
+use lib.Dec.{eqb}
+use Rattle.flc.specs.Sets.{both, either, implies, forAll, forSome, first, has, setOf}
+use Rattle.flc.specs.Functions.{contained, below, monotone, agree, forAllFun, forSomeFun, meet, join, approximant, rounds}
+use Rattle.flc.specs.Formula.{Table, top, bottom, tau, prop, nprop, dia, box, or, and, chop, Formula, atom, var, op, fix, meanAtom, put, mean, none, free}
+use Rattle.flc.specs.Nodes.{Node, leaf, bind, lower, formulaAt, roundsOf, roundsAt}
+use Rattle.flc.specs.Bisimulation.{met, bisimulation, alike}
+
+-- what a closed rule gives at the set x
+value : Table → Formula → ℕ → ℕ
+unfolding mean meanAtom put none meet join forAllFun forSomeFun monotone below contained has setOf forAll forSome both either implies
+value L p x = mean L p none x
+
+-- one state, no steps
+still : Table
+still = record { n = 1; label = λ s. 0; step = λ s a t. false }
+
+-- two states, state 1 has proposition 0; steps (0,0,0) and (0,0,1)
+fork : Table
+unfolding both
+fork = record { n = 2; label = λ s. s; step = λ s a t. both (eqb s 0) (eqb a 0) }
+
+-- three states, 1 has proposition 0 and 2 has proposition 1; steps (0,0,1) and (0,0,2)
+split : Table
+unfolding both
+split = record { n = 3; label = λ s. s; step = λ s a t. both (both (eqb s 0) (eqb a 0)) (not (eqb t 0)) }
+
+-- ---- atoms
+
+-- without an a-step [a] holds and ⟨a⟩ does not
+box-no-step : value still (atom (box 0)) 0 ≡ 1
+unfolding value still
+box-no-step = refl
+
+dia-no-step : value still (atom (dia 0)) 1 ≡ 0
+unfolding value still
+dia-no-step = refl
+
+-- of two steps one goes into X: ⟨a⟩ holds in state 0 and [a] does not
+dia-one-of-two : value fork (atom (dia 0)) 2 ≡ 1
+unfolding value fork
+dia-one-of-two = refl
+
+box-one-of-two : value fork (atom (box 0)) 2 ≡ 2
+unfolding value fork
+box-one-of-two = refl
+
+other-action : value fork (atom (dia 1)) 3 ≡ 0
+unfolding value fork
+other-action = refl
+
+tt-all : value fork (atom top) 0 ≡ 3
+unfolding value fork
+tt-all = refl
+
+ff-none : value fork (atom bottom) 3 ≡ 0
+unfolding value fork
+ff-none = refl
+
+tau-set : value fork (atom tau) 2 ≡ 2
+unfolding value fork
+tau-set = refl
+
+proposition : value fork (atom (prop 0)) 0 ≡ 2
+unfolding value fork
+proposition = refl
+
+complement : value fork (atom (nprop 0)) 0 ≡ 1
+unfolding value fork
+complement = refl
+
+-- ---- or, and, chop
+union : value fork (op or (atom (prop 0)) (atom (dia 0))) 2 ≡ 3
+unfolding value fork
+union = refl
+
+intersection : value fork (op and (atom (prop 0)) (atom (dia 0))) 2 ≡ 0
+unfolding value fork
+intersection = refl
+
+-- ⟨0⟩;p0 is not p0;⟨0⟩
+chop-one-way : value fork (op chop (atom (dia 0)) (atom (prop 0))) 0 ≡ 1
+unfolding value fork
+chop-one-way = refl
+
+chop-other-way : value fork (op chop (atom (prop 0)) (atom (dia 0))) 0 ≡ 2
+unfolding value fork
+chop-other-way = refl
+
+-- chop does not distribute on the right
+chop-of-and : value split (op chop (atom (dia 0)) (op and (atom (prop 0)) (atom (prop 1)))) 7 ≡ 0
+unfolding value split
+chop-of-and = refl
+
+and-of-chops : value split (op and (op chop (atom (dia 0)) (atom (prop 0))) (op chop (atom (dia 0)) (atom (prop 1)))) 7 ≡ 1
+unfolding value split
+and-of-chops = refl
+
+-- ---- binders
+
+-- μZ.Z is empty and νZ.Z is all
+mu-self : value still (fix true 0 (var 0)) 1 ≡ 0
+unfolding value still
+mu-self = refl
+
+nu-self : value still (fix false 0 (var 0)) 0 ≡ 1
+unfolding value still
+nu-self = refl
+
+-- μZ. τ or ⟨0⟩;Z, on two states: some way leads into X
+mu-reach : value fork (fix true 0 (op or (atom tau) (op chop (atom (dia 0)) (var 0)))) 2 ≡ 3
+unfolding value fork
+mu-reach = refl
+
+-- νZ. τ and ⟨0⟩;Z, on two states: a way that never leaves X
+nu-stay : value fork (fix false 0 (op and (atom tau) (op chop (atom (dia 0)) (var 0)))) 3 ≡ 1
+unfolding value fork
+nu-stay = refl
+
+-- a variable means its innermost binder
+inner-binder : value still (fix true 0 (fix false 0 (var 0))) 0 ≡ 1
+unfolding value still
+inner-binder = refl
+
+-- only monotone functions count: the complement is none, the one above it is all everywhere, the one below it empty
+meet-monotone : meet 1 (λ f x. 1 - x) 1 ≡ 1
+unfolding meet forAllFun monotone below contained has setOf forAll both implies
+meet-monotone = refl
+
+join-monotone : join 1 (λ f x. 1 - x) 0 ≡ 0
+unfolding join forSomeFun forAllFun monotone below contained has setOf forAll both implies
+join-monotone = refl
+
+-- ---- free variables
+bound : free 0 (fix true 0 (var 0)) ≡ false
+unfolding free both
+bound = refl
+
+not-bound : free 1 (fix true 0 (op or (atom tau) (var 1))) ≡ true
+unfolding free both either
+not-bound = refl
+
+-- ---- approximants and rounds
+least-starts-empty : approximant true 1 (λ f. f) 0 1 ≡ 0
+unfolding approximant setOf
+least-starts-empty = refl
+
+greatest-starts-full : approximant false 1 (λ f. f) 0 0 ≡ 1
+unfolding approximant setOf
+greatest-starts-full = refl
+
+next-is-body : approximant false 1 (λ f x. 0) 1 0 ≡ 0
+unfolding approximant
+next-is-body = refl
+
+-- the rule's rounds: 1 for μZ.τ, 0 where the root is no binder
+rule : ℕ → Node
+rule zero = leaf (atom tau)
+rule (suc j) = bind true 0 0
+
+rounds-counted : roundsAt still rule 1 ≡ 1
+unfolding still rule roundsAt roundsOf lower rounds first agree approximant setOf forAll both mean meanAtom
+rounds-counted = refl
+
+rounds-no-binder : roundsAt still rule 0 ≡ 0
+unfolding rule roundsAt roundsOf
+rounds-no-binder = refl
+
+rule-tree : formulaAt rule 1 ≡ fix true 0 (atom tau)
+unfolding rule formulaAt lower
+rule-tree = refl
+
+-- ---- alike states
+
+-- two states; state 0 goes round, state 1 does as the flag says
+loops : Bool → Table
+unfolding both either
+loops b = record { n = 2; label = λ s. 0; step = λ s a t. both (eqb s t) (either (eqb s 0) b) }
+
+same-steps : alike (loops true) 0 1 ≡ true
+unfolding loops alike bisimulation met forSomeFun forAllFun forAll forSome has both either implies
+same-steps = refl
+
+-- the steps of both sides count
+only-one-steps : alike (loops false) 0 1 ≡ false
+unfolding loops alike bisimulation met forSomeFun forAllFun forAll forSome has both either implies
+only-one-steps = refl
+
+only-other-steps : alike (loops false) 1 0 ≡ false
+unfolding loops alike bisimulation met forSomeFun forAllFun forAll forSome has both either implies
+only-other-steps = refl
+
+-- a relation that meets the steps of one side only
+one-sided : bisimulation (loops false) (λ s t. both (eqb s 1) (eqb t 0)) ≡ false
+unfolding loops bisimulation met forAll forSome both either implies
+one-sided = refl
+
+-- the labels count
+other-label : alike (record { n = 2; label = λ s. s; step = λ s a t. false }) 0 1 ≡ false
+unfolding alike bisimulation met forSomeFun forAllFun forAll forSome has both either implies
+other-label = refl

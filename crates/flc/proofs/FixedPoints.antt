@@ -1,0 +1,139 @@
+-- Least and greatest fixed points of a map on functions, as one by the flag: they are the bounds that they should be, and fixed points;
+-- every approximant is below them, and where the approximants stand still they have come to them.
+use mathlib.Core.Path.{_≡_, sym, ap, _∙_, subst}
+use mathlib.Core.Bool.{Bool, true, false, not}
+use Prim.Native.Nat.{ℕ, zero, suc, _^_, _<_}
+use lib.Dec.{T}
+use Rattle.flc.specs.Sets.{both, implies, has, setOf}
+use Rattle.flc.specs.Functions.{Fun, below, monotone, forAllFun, forSomeFun, meet, join, approximant}
+use Rattle.flc.proofs.Tests.{implies-use, implies-mk, both-left, both-right, both-mk, not-not, not-both}
+use Rattle.flc.proofs.Masks.{has-setOf, setOf-lt}
+use Rattle.flc.proofs.Order.{signed, In, Below, Agree, Good, below-flip, below-antisym, agree-below, below-trans, good-mono, good-by, good-agree, below-use, below-mk, monotone-use, monotone-mk, cut, cut-at, forAllFun-use, forAllFun-mk}
+
+-- the least for the flag true, the greatest for false
+abbrev pub fixed : Bool → ℕ → (Fun → Fun) → Fun
+fixed true n F = meet n F
+fixed false n F = join n F
+
+-- F takes monotone functions to monotone functions and keeps their order
+pub record Steady (n : ℕ) (F : Fun → Fun) : Type 0 where
+  pub good : (f : Fun) → Good n f → Good n (F f)
+  pub rises : (f g : Fun) → Good n f → Good n g → Below true n f g → Below true n (F f) (F g)
+
+-- it keeps the order turned round too
+pub steady-rises : (d : Bool) {n : ℕ} {F : Fun → Fun} → Steady n F
+    → (f g : Fun) → Good n f → Good n g → Below d n f g → Below d n (F f) (F g)
+steady-rises true S f g A B h = S .rises f g A B h
+steady-rises false {n} {F} S f g A B h = below-flip true n (F g) (F f) (S .rises g f B A (below-flip false n f g h))
+
+-- ---- the definitions, as one
+
+-- below; with the flag false: above
+abbrev order : Bool → ℕ → Fun → Fun → Bool
+order true n f g = below n f g
+order false n f g = below n g f
+
+order-use : (d : Bool) (n : ℕ) (f g : Fun) → T (order d n f g) → Below d n f g
+order-use true n f g h = below-use n f g h
+order-use false n f g h = below-flip true n g f (below-use n g f h)
+
+order-mk : (d : Bool) (n : ℕ) (f g : Fun) → Below d n f g → T (order d n f g)
+order-mk true n f g h = below-mk n f g h
+order-mk false n f g h = below-mk n g f (below-flip false n f g h)
+
+-- s is in the least at x (is not in the greatest) exactly if it is so for every monotone f that F takes below (above) itself
+fixed-test : (d : Bool) (n : ℕ) (F : Fun → Fun) (x s : ℕ) → s < n → signed d (has (fixed d n F x) s)
+    ≡ forAllFun (2 ^ n) (2 ^ n) (λ f. implies (both (monotone n f) (order d n (F f) f)) (signed d (has (f x) s)))
+unfolding meet join forSomeFun
+fixed-test true n F x s k = has-setOf n _ s k
+fixed-test false n F x s k =
+    ap not (has-setOf n _ s k) ∙ not-not _
+    ∙ (λ i. forAllFun (2 ^ n) (2 ^ n) (λ f. not-both (both (monotone n f) (below n f (F f))) (has (f x) s) i))
+
+-- it gives sets
+fixed-small : (d : Bool) (n : ℕ) (F : Fun → Fun) (x : ℕ) → fixed d n F x < 2 ^ n
+unfolding meet join
+fixed-small true n F x = setOf-lt n _
+fixed-small false n F x = setOf-lt n _
+
+-- nothing is in an approximant 0
+pub none-in : (d : Bool) (n s : ℕ) → s < n → In d (setOf n (λ s. not d)) s → ⊥
+none-in true n s k t = subst T (has-setOf n _ s k) t
+none-in false n s k t = subst (λ b. T (not b)) (has-setOf n _ s k) t
+
+module _ (d : Bool) {n : ℕ} {F : Fun → Fun} (S : Steady n F) where
+  -- what is in the fixed point is in every function that F takes below itself
+  pub fixed-use : (x s : ℕ) → x < 2 ^ n → s < n → In d (fixed d n F x) s → (g : Fun) → Good n g → Below d n (F g) g → In d (g x) s
+  fixed-use x s i k t g G h =
+      let c : Fun = cut (2 ^ n) g in
+      let e : Agree n c g = cut-at (2 ^ n) g in
+      let C : Good n c = good-agree c e G in
+      let b : Below d n (F c) c =
+      below-trans d n (F c) (F g) c (steady-rises d S c g C G (agree-below d n c g e))
+      (below-trans d n (F g) g c h (agree-below d n g c (λ x i. sym (e x i)))) in
+      subst (λ y. In d y s) (e x i)
+      (implies-use _ _ (forAllFun-use (2 ^ n) (2 ^ n) _ (subst T (fixed-test d n F x s k) t) g (G .small))
+      (both-mk _ _ (monotone-mk C) (order-mk d n (F c) c b)))
+
+  -- and what is in all of them is in the fixed point
+  pub fixed-mk : (x s : ℕ) → s < n → ((g : Fun) → Good n g → Below d n (F g) g → In d (g x) s) → In d (fixed d n F x) s
+  fixed-mk x s k h =
+      subst T (sym (fixed-test d n F x s k)) (forAllFun-mk (2 ^ n) (2 ^ n) _ (λ f e. implies-mk _ _ (λ t.
+      h f (record { small = e; mono = monotone-use n f (both-left _ _ t) }) (order-use d n (F f) f (both-right _ _ t)))))
+
+  -- it is monotone
+  pub fixed-good : Good n (fixed d n F)
+  fixed-good =
+      good-by d n (fixed d n F) (λ x i. fixed-small d n F x)
+      (λ x y i j u s k t. fixed-mk y s k (λ g G h. good-mono d G x y i j u s k (fixed-use x s i k t g G h)))
+
+  -- a lower bound, and the greatest
+  pub fixed-below : (g : Fun) → Good n g → Below d n (F g) g → Below d n (fixed d n F) g
+  fixed-below g G h x i s k t = fixed-use x s i k t g G h
+
+  pub fixed-above : (f : Fun) → ((g : Fun) → Good n g → Below d n (F g) g → Below d n f g) → Below d n f (fixed d n F)
+  fixed-above f h x i s k t = fixed-mk x s k (λ g G b. h g G b x i s k t)
+
+  -- and a fixed point
+  pub fixed-fixed : Agree n (F (fixed d n F)) (fixed d n F)
+  fixed-fixed =
+      let down : Below d n (F (fixed d n F)) (fixed d n F) =
+      fixed-above (F (fixed d n F)) (λ g G h. below-trans d n _ (F g) g (steady-rises d S (fixed d n F) g fixed-good G (fixed-below g G h)) h) in
+      let good : Good n (F (fixed d n F)) = S .good (fixed d n F) fixed-good in
+      below-antisym d good fixed-good down
+      (fixed-below (F (fixed d n F)) good (steady-rises d S (F (fixed d n F)) (fixed d n F) good fixed-good down))
+
+  -- ---- approximants
+
+  -- they are monotone
+  pub approx-good : (k : ℕ) → Good n (approximant d n F k)
+  unfolding approximant
+  approx-good zero = record { small = λ x i. setOf-lt n _; mono = λ x y i j u s k t. t }
+  approx-good (suc k) = S .good (approximant d n F k) (approx-good k)
+
+  -- every approximant is below whatever F takes below itself
+  pub approx-below : (k : ℕ) (g : Fun) → Good n g → Below d n (F g) g → Below d n (approximant d n F k) g
+  unfolding approximant
+  approx-below zero g G h = λ x i s k t. absurd (none-in d n s k t)
+  approx-below (suc k) g G h =
+      below-trans d n _ (F g) g (steady-rises d S (approximant d n F k) g (approx-good k) G (approx-below k g G h)) h
+
+  -- where the approximants stand still they are the fixed point
+  pub approx-fixed : (k : ℕ) → Agree n (approximant d n F k) (approximant d n F (suc k)) → Agree n (fixed d n F) (approximant d n F k)
+  unfolding approximant
+  approx-fixed k e =
+      below-antisym d fixed-good (approx-good k)
+      (fixed-below (approximant d n F k) (approx-good k) (agree-below d n _ _ (λ x i. sym (e x i))))
+      (fixed-above (approximant d n F k) (approx-below k))
+
+-- a greater map has a greater fixed point: in the flag's order
+fixed-up : (d : Bool) {n : ℕ} {F G : Fun → Fun} → Steady n F → Steady n G
+    → ((f : Fun) → Good n f → Below d n (F f) (G f)) → Below d n (fixed d n F) (fixed d n G)
+fixed-up d {n} {F} {G} S R h = fixed-above d R (fixed d n F) (λ g A b. fixed-below d S g A (below-trans d n (F g) (G g) g (h g A) b))
+
+-- in the order itself, whichever the flag
+pub fixed-rises : (d : Bool) {n : ℕ} {F G : Fun → Fun} → Steady n F → Steady n G
+    → ((f : Fun) → Good n f → Below true n (F f) (G f)) → Below true n (fixed d n F) (fixed d n G)
+fixed-rises true S R h = fixed-up true S R h
+fixed-rises false {n} {F} {G} S R h =
+    below-flip false n (join n G) (join n F) (fixed-up false R S (λ f A. below-flip true n (F f) (G f) (h f A)))

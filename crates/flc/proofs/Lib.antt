@@ -1,0 +1,14 @@
+pub mod Examples
+pub mod Tests
+pub mod Masks
+pub mod Order
+pub mod FixedPoints
+pub mod Weight
+pub mod Rounds
+pub mod Meanings
+pub mod Unfolding
+pub mod Laws
+pub mod Invariance
+pub mod Alikeness
+pub mod Packing
+pub mod Evaluation

@@ -1,0 +1,129 @@
+-- Sets as numbers: the members of setOf, two sets with the same members, and that | and & are union and intersection.
+-- By induction on the width: the lowest digit, then the half.
+use mathlib.Core.Path.{_≡_, refl, sym, ap, ap₂, _∙_}
+use mathlib.Core.Bool.{Bool, true, false}
+use Prim.Native.Nat.{ℕ, zero, suc, _+_, _*_, _/_, _%_, _^_, _≤_, _<_, suc-le-suc, min, max}
+use native.Mathlib.Nat.{le-of-suc-le-suc, not-suc-le-zero, div-one, add-comm}
+use native.Mathlib.Numerals.{add-one}
+use native.Mathlib.Omega.{arith}
+use lib.Dec.{eqb}
+use lib.Pow.{shr-shr}
+use lib.Bits.{bitOr, bitAnd, or-shr, and-shr, or-step, and-step, or-lt, and-lt}
+use Rattle.flc.specs.Sets.{both, either, has, bit, setOf}
+
+-- ---- the lowest digit, and the others
+
+-- a test is a digit, and a digit a test
+eqb-bit : (b : Bool) → eqb (bit b) 1 ≡ b
+eqb-bit true = refl
+eqb-bit false = refl
+
+bit-eqb : (a : ℕ) → a < 2 → bit (eqb a 1) ≡ a
+bit-eqb zero h = refl
+bit-eqb (suc zero) h = refl
+bit-eqb (suc (suc a)) h = absurd (omega arith)
+
+pub bit-le : (b : Bool) → bit b ≤ 1
+bit-le true = omega arith
+bit-le false = omega arith
+
+-- state 0 is the lowest digit, the others are the half's
+pub has-zero : (x : ℕ) → has x zero ≡ eqb (x % 2) 1
+unfolding has
+has-zero x = rw div-one
+
+pub has-suc : (x s : ℕ) → has x (suc s) ≡ has (x / 2) s
+unfolding has
+has-suc x s = rw (shr-shr x 1 s, add-comm 1 s, add-one)
+
+-- ---- members
+
+-- a state is in the set of a test exactly if it passes
+pub has-setOf : (n : ℕ) (p : ℕ → Bool) (s : ℕ) → s < n → has (setOf n p) s ≡ p s
+unfolding setOf
+has-setOf zero p s k = absurd (not-suc-le-zero k)
+has-setOf (suc n) p zero k =
+    let e : (bit (p zero) + 2 * setOf n (λ s. p (suc s))) % 2 ≡ bit (p zero) = omega (arith, bit-le (p zero)) in
+    has-zero _ ∙ ap (λ a. eqb a 1) e ∙ eqb-bit (p zero)
+has-setOf (suc n) p (suc s) k =
+    let e : (bit (p zero) + 2 * setOf n (λ s. p (suc s))) / 2 ≡ setOf n (λ s. p (suc s)) = omega (arith, bit-le (p zero)) in
+    has-suc _ s ∙ ap (λ x. has x s) e ∙ has-setOf n (λ s. p (suc s)) s (le-of-suc-le-suc k)
+
+-- the set of a test is a set
+pub setOf-lt : (n : ℕ) (p : ℕ → Bool) → setOf n p < 2 ^ n
+unfolding setOf
+setOf-lt zero p = omega arith
+setOf-lt (suc n) p = omega (arith, bit-le (p zero), setOf-lt n (λ s. p (suc s)))
+
+-- tests that agree below n have one set
+pub setOf-ext : (n : ℕ) (p q : ℕ → Bool) → ((s : ℕ) → s < n → p s ≡ q s) → setOf n p ≡ setOf n q
+unfolding setOf
+setOf-ext zero p q e = refl
+setOf-ext (suc n) p q e =
+    ap₂ (λ b r. bit b + 2 * r) (e zero (omega arith)) (setOf-ext n (λ s. p (suc s)) (λ s. q (suc s)) (λ s k. e (suc s) (suc-le-suc k)))
+
+-- a set is the set of its members
+pub setOf-has : (n x : ℕ) → x < 2 ^ n → setOf n (has x) ≡ x
+unfolding setOf
+setOf-has zero x h = omega arith
+setOf-has (suc n) x h =
+    let r : setOf n (λ s. has x (suc s)) ≡ x / 2 = setOf-ext n _ _ (λ s k. has-suc x s) ∙ setOf-has n (x / 2) (omega arith) in
+    let b : bit (has x zero) ≡ x % 2 = ap bit (has-zero x) ∙ bit-eqb (x % 2) (omega arith) in
+    omega arith
+
+-- two sets with the same members are equal
+pub set-ext : (n x y : ℕ) → x < 2 ^ n → y < 2 ^ n → ((s : ℕ) → s < n → has x s ≡ has y s) → x ≡ y
+set-ext n x y i j e = sym (setOf-has n x i) ∙ setOf-ext n (has x) (has y) e ∙ setOf-has n y j
+
+-- ---- | and & are union and intersection
+
+-- an operation f on numbers that works digit by digit, as c does on tests
+module _ (f : ℕ → ℕ → ℕ) (c : Bool → Bool → Bool)
+    (shr : (a b k : ℕ) → f a b / 2 ^ k ≡ f (a / 2 ^ k) (b / 2 ^ k))
+    (low : (a b : ℕ) → f a b % 2 ≡ bit (c (eqb (a % 2) 1) (eqb (b % 2) 1))) where
+  digit : (x y s : ℕ) → has (f x y) s ≡ c (has x s) (has y s)
+  unfolding has
+  digit x y s = ap (λ z. eqb (z % 2) 1) (shr x y s) ∙ ap (λ z. eqb z 1) (low (x / 2 ^ s) (y / 2 ^ s)) ∙ eqb-bit _
+
+  digits : (n x y : ℕ) → f x y < 2 ^ n → f x y ≡ setOf n (λ s. c (has x s) (has y s))
+  digits n x y h = sym (setOf-has n (f x y) h) ∙ setOf-ext n _ _ (λ s k. digit x y s)
+
+-- by the four cases of two digits
+two-digits : (f : ℕ → ℕ → ℕ) (c : Bool → Bool → Bool) → ((p q : Bool) → f (bit p) (bit q) ≡ bit (c p q))
+    → (a b : ℕ) → f (a % 2) (b % 2) ≡ bit (c (eqb (a % 2) 1) (eqb (b % 2) 1))
+two-digits f c h a b =
+    ap₂ f (sym (bit-eqb (a % 2) (omega arith))) (sym (bit-eqb (b % 2) (omega arith))) ∙ h (eqb (a % 2) 1) (eqb (b % 2) 1)
+
+max-either : (p q : Bool) → max (bit p) (bit q) ≡ bit (either p q)
+unfolding either
+max-either true true = refl
+max-either true false = refl
+max-either false true = refl
+max-either false false = refl
+
+min-both : (p q : Bool) → min (bit p) (bit q) ≡ bit (both p q)
+unfolding both
+min-both true true = refl
+min-both true false = refl
+min-both false true = refl
+min-both false false = refl
+
+or-low : (a b : ℕ) → bitOr a b % 2 ≡ bit (either (eqb (a % 2) 1) (eqb (b % 2) 1))
+or-low a b = omega (arith, or-step a b, two-digits max either max-either a b)
+
+and-low : (a b : ℕ) → bitAnd a b % 2 ≡ bit (both (eqb (a % 2) 1) (eqb (b % 2) 1))
+and-low a b = omega (arith, and-step a b, two-digits min both min-both a b)
+
+-- at each state
+pub has-or : (x y s : ℕ) → has (bitOr x y) s ≡ either (has x s) (has y s)
+has-or = digit bitOr either or-shr or-low
+
+pub has-and : (x y s : ℕ) → has (bitAnd x y) s ≡ both (has x s) (has y s)
+has-and = digit bitAnd both and-shr and-low
+
+-- as sets
+pub or-setOf : (n x y : ℕ) → x < 2 ^ n → y < 2 ^ n → bitOr x y ≡ setOf n (λ s. either (has x s) (has y s))
+or-setOf n x y h k = digits bitOr either or-shr or-low n x y (or-lt n x y h k)
+
+pub and-setOf : (n x y : ℕ) → x < 2 ^ n → y < 2 ^ n → bitAnd x y ≡ setOf n (λ s. both (has x s) (has y s))
+and-setOf n x y h k = digits bitAnd both and-shr and-low n x y (and-lt n x y h k)

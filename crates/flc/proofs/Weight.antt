@@ -1,0 +1,85 @@
+-- The weight of a function on sets, the number of its members at all sets together: what bounds the rounds.
+-- It is at most n * 2 ^ n, rises with the function, and a function that is above another of the same weight is that one.
+use mathlib.Core.Path.{_≡_}
+use mathlib.Core.Bool.{Bool, true, false}
+use Prim.Native.Nat.{ℕ, zero, suc, _+_, _*_, _^_, _≤_, _<_, suc-le-suc}
+use native.Mathlib.Nat.{le-of-suc-le-suc, not-suc-le-zero}
+use native.Mathlib.Omega.{arith}
+use lib.Dec.{T}
+use Rattle.flc.specs.Sets.{has, bit}
+use Rattle.flc.specs.Functions.{Fun}
+use Rattle.flc.proofs.Masks.{bit-le}
+use Rattle.flc.proofs.Order.{signed, Below}
+
+-- f 0 + .. + f (k - 1)
+sum : ℕ → (ℕ → ℕ) → ℕ
+sum zero f = 0
+sum (suc k) f = f zero + sum k (λ i. f (suc i))
+
+-- of terms that are at most c
+sum-max : (k c : ℕ) (f : ℕ → ℕ) → ((i : ℕ) → i < k → f i ≤ c) → sum k f ≤ c * k
+unfolding sum
+sum-max zero c f h = omega arith
+sum-max (suc k) c f h = omega (arith, h zero (omega arith), sum-max k c (λ i. f (suc i)) (λ i j. h (suc i) (suc-le-suc j)))
+
+-- of smaller terms
+sum-le : (k : ℕ) (f g : ℕ → ℕ) → ((i : ℕ) → i < k → f i ≤ g i) → sum k f ≤ sum k g
+unfolding sum
+sum-le zero f g h = omega arith
+sum-le (suc k) f g h = omega (arith, h zero (omega arith), sum-le k (λ i. f (suc i)) (λ i. g (suc i)) (λ i j. h (suc i) (suc-le-suc j)))
+
+-- sums of smaller terms that are equal have equal terms
+sum-eq : (k : ℕ) (f g : ℕ → ℕ) → ((i : ℕ) → i < k → f i ≤ g i) → sum k f ≡ sum k g → (i : ℕ) → i < k → f i ≡ g i
+unfolding sum
+sum-eq zero f g h e i j = absurd (not-suc-le-zero j)
+sum-eq (suc k) f g h e i j =
+    let l : sum k (λ i. f (suc i)) ≤ sum k (λ i. g (suc i)) = sum-le k (λ i. f (suc i)) (λ i. g (suc i)) (λ i j. h (suc i) (suc-le-suc j)) in
+    let z : f zero ≤ g zero = h zero (omega arith) in
+    elim i as (λ i. i < suc k → f i ≡ g i) [
+      | zero ↦ λ j. omega arith
+      | suc i ↦ λ j. sum-eq k (λ i. f (suc i)) (λ i. g (suc i)) (λ i j. h (suc i) (suc-le-suc j)) (omega arith) i (le-of-suc-le-suc j)
+    ] j
+
+-- digits as tests
+bit-rises : (a b : Bool) → (T a → T b) → bit a ≤ bit b
+bit-rises true true h = omega arith
+bit-rises true false h = absurd (h tt)
+bit-rises false b h = omega arith
+
+bit-back : (a b : Bool) → bit a ≡ bit b → T b → T a
+bit-back true b e t = tt
+bit-back false true e t = absurd (omega arith)
+bit-back false false e t = t
+
+-- 1 if s is in x, with the flag false: if it is not
+abbrev member : Bool → ℕ → ℕ → ℕ
+member d x s = bit (signed d (has x s))
+
+-- the members at all sets
+pub weight : Bool → ℕ → Fun → ℕ
+weight d n f = sum (2 ^ n) (λ x. sum n (member d (f x)))
+
+-- each of n states is in each of 2 ^ n sets at most once
+pub weight-max : (d : Bool) (n : ℕ) (f : Fun) → weight d n f ≤ n * 2 ^ n
+unfolding weight
+weight-max d n f =
+    sum-max (2 ^ n) n _ (λ x i. omega (arith, sum-max n 1 (member d (f x)) (λ s k. bit-le (signed d (has (f x) s)))))
+
+-- f below g: then f is no heavier, and if it is no lighter either, g is below f
+module _ (d : Bool) (n : ℕ) (f g : Fun) (h : Below d n f g) where
+  each : (x : ℕ) → x < 2 ^ n → (s : ℕ) → s < n → member d (f x) s ≤ member d (g x) s
+  each x i s k = bit-rises (signed d (has (f x) s)) (signed d (has (g x) s)) (h x i s k)
+
+  at : (x : ℕ) → x < 2 ^ n → sum n (member d (f x)) ≤ sum n (member d (g x))
+  at x i = sum-le n _ _ (each x i)
+
+  pub weight-le : weight d n f ≤ weight d n g
+  unfolding weight
+  weight-le = sum-le (2 ^ n) _ _ at
+
+  pub weight-eq : weight d n f ≡ weight d n g → Below d n g f
+  unfolding weight
+  weight-eq e x i s k =
+      bit-back (signed d (has (f x) s)) (signed d (has (g x) s))
+      (sum-eq n (member d (f x)) (member d (g x)) (each x i)
+      (sum-eq (2 ^ n) (λ x. sum n (member d (f x))) (λ x. sum n (member d (g x))) at e x i) s k)

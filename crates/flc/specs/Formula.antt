@@ -1,0 +1,64 @@
+-- State tables, rules as trees, and what a rule means. Document 01, "Meaning", sentence by sentence.
+use mathlib.Core.Bool.{Bool, true, false, not, cond}
+use Prim.Native.Nat.{ℕ}
+use lib.Dec.{eqb}
+use Rattle.flc.specs.Sets.{both, either, implies, forAll, forSome, has, setOf}
+use Rattle.flc.specs.Functions.{Fun, meet, join}
+
+-- n states, the label byte of each, and the transitions (from, action, to)
+pub record Table : Type 0 where
+  pub n : ℕ
+  pub label : ℕ → ℕ
+  pub step : ℕ → ℕ → ℕ → Bool
+
+-- tt, ff, τ; a proposition, its complement, ⟨a⟩, [a]
+pub data Atom : Type 0 where
+  top bottom tau : Atom
+  prop nprop dia box : ℕ → Atom
+
+pub data Op : Type 0 where
+  or and chop : Op
+
+-- a rule: fix true is μ, fix false is ν
+pub data Formula : Type 0 where
+  atom : Atom → Formula
+  var : ℕ → Formula
+  op : Op → Formula → Formula → Formula
+  fix : Bool → ℕ → Formula → Formula
+
+unfoldable pub meanAtom : Table → Atom → Fun
+meanAtom L top x = setOf (L .n) (λ s. true)
+meanAtom L bottom x = setOf (L .n) (λ s. false)
+meanAtom L (prop i) x = setOf (L .n) (λ s. has (L .label s) i)
+meanAtom L (nprop i) x = setOf (L .n) (λ s. not (has (L .label s) i))
+meanAtom L tau x = x
+meanAtom L (dia a) x = setOf (L .n) (λ s. forSome (L .n) (λ t. both (L .step s a t) (has x t)))
+meanAtom L (box a) x = setOf (L .n) (λ s. forAll (L .n) (λ t. implies (L .step s a t) (has x t)))
+
+-- "given monotone functions for its free variables"
+abbrev pub Env : Type 0
+Env = ℕ → Fun
+
+-- ρ with f for v
+unfoldable pub put : Env → ℕ → Fun → Env
+put ρ v f w = cond (eqb w v) f (ρ w)
+
+unfoldable pub mean : Table → Formula → Env → Fun
+mean L (atom a) ρ x = meanAtom L a x
+mean L (var v) ρ x = ρ v x
+mean L (op or p q) ρ x = setOf (L .n) (λ s. either (has (mean L p ρ x) s) (has (mean L q ρ x) s))
+mean L (op and p q) ρ x = setOf (L .n) (λ s. both (has (mean L p ρ x) s) (has (mean L q ρ x) s))
+mean L (op chop p q) ρ x = mean L p ρ (mean L q ρ x)
+mean L (fix true v p) ρ x = meet (L .n) (λ f. mean L p (put ρ v f)) x
+mean L (fix false v p) ρ x = join (L .n) (λ f. mean L p (put ρ v f)) x
+
+-- an environment for a root, which has no free variable: any other serves as well
+unfoldable pub none : Env
+none v x = 0
+
+-- the variable w is free in the rule
+unfoldable pub free : ℕ → Formula → Bool
+free w (atom a) = false
+free w (var v) = eqb w v
+free w (op o p q) = either (free w p) (free w q)
+free w (fix d v p) = both (not (eqb w v)) (free w p)

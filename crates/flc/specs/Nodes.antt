@@ -1,0 +1,42 @@
+-- A rule as numbered nodes, each one layer of a tree, and the tree that a node stands for.
+-- Document 01, "The case file": "A node names only nodes of lower number, so sharing is allowed and a circle is not."
+use mathlib.Core.Bool.{Bool, cond}
+use Prim.Native.Nat.{ℕ, zero, suc}
+use lib.Dec.{eqb}
+use Rattle.flc.specs.Functions.{Fun, approximant, rounds}
+use Rattle.flc.specs.Formula.{Table, Op, Formula, atom, bottom, op, fix, put, mean, none}
+
+-- a node that names no node, one that names two, and a binder with its variable and body
+pub data Node : Type 0 where
+  leaf : Formula → Node
+  two : Op → ℕ → ℕ → Node
+  bind : Bool → ℕ → ℕ → Node
+
+-- the tree of a node, from the trees of the nodes that it names
+abbrev pub tree : Node → (ℕ → Formula) → Formula
+tree (leaf p) φ = p
+tree (two o a b) φ = op o (φ a) (φ b)
+tree (bind d v b) φ = fix d v (φ b)
+
+-- the trees of the nodes below j: no other can be named
+unfoldable pub lower : (ℕ → Node) → ℕ → ℕ → Formula
+lower N zero i = atom bottom
+lower N (suc j) i = cond (eqb i j) (tree (N j) (lower N j)) (lower N j i)
+
+unfoldable pub formulaAt : (ℕ → Node) → ℕ → Formula
+formulaAt N j = tree (N j) (lower N j)
+
+-- the rounds of the rule of a node. "It is 0 where the root is no binder."
+unfoldable pub roundsOf : Table → Node → (ℕ → Formula) → ℕ
+roundsOf L (leaf p) φ = 0
+roundsOf L (two o a b) φ = 0
+roundsOf L (bind d v b) φ = rounds d (L .n) (λ f. mean L (φ b) (put none v f))
+
+-- approximant k of the rule of a node; of one that is no binder, its meaning
+unfoldable pub approximantOf : Table → Node → (ℕ → Formula) → ℕ → Fun
+approximantOf L (leaf p) φ k = mean L p none
+approximantOf L (two o a b) φ k = mean L (op o (φ a) (φ b)) none
+approximantOf L (bind d v b) φ k = approximant d (L .n) (λ f. mean L (φ b) (put none v f)) k
+
+unfoldable pub roundsAt : Table → (ℕ → Node) → ℕ → ℕ
+roundsAt L N j = roundsOf L (N j) (lower N j)

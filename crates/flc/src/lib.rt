@@ -1,0 +1,1 @@
+// The logic: definitions in specs/, lemmas in proofs/. No code.

@@ -1,0 +1,19 @@
+-- Replies as one number, for callers in other languages; include/hoidrul.h says the same in C.
+use Prim.Native.Nat.{ℕ, _+_, _*_, _^_}
+use Rattle.case_model.specs.Replies.{Reply, answers, refuses, Counts}
+
+-- bit 63, the number from bit 32 on, and the place
+abbrev pub refusalWord : ℕ → ℕ → ℕ
+refusalWord k p = 2 ^ 63 + k * 2 ^ 32 + p
+
+abbrev pub packed : {A : Type 0} → (A → ℕ) → Reply A → ℕ
+packed word (answers a) = word a
+packed word (refuses k p) = refusalWord k p
+
+-- n + m * 2^16
+abbrev pub countsWord : Counts → ℕ
+countsWord c = c .states + c .nodes * 2 ^ 16
+
+-- a part's offset and length
+abbrev pub spanWord : ℕ → ℕ → ℕ
+spanWord offset size = offset * 2 ^ 32 + size

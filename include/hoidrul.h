@@ -1,0 +1,30 @@
+/* Checking case files: one state table and one rule in Fixed Point Logic with Chop.
+ *
+ * Every function takes any bytes and any numbers. `file` points to `len` bytes, which are only read.
+ *
+ * A refusal has bit 63 set, its number (1 to 13) in bits 32 to 62 and its place in bits 0 to 31.
+ * The place is the triple in refusal 3, the node in 5 and 6, and else 0. No answer has bit 63 set.
+ */
+#ifndef HOIDRUL_H
+#define HOIDRUL_H
+
+#include <stddef.h>
+#include <stdint.h>
+
+#ifdef __cplusplus
+extern "C" {
+#endif
+
+/* Vetting. Sections are 0 (labels), 1 (steps) and 2 (rule); any other gets refusal 8.
+ * Answer: n + m * 2^16 for a case of n states and m nodes. Refusals: 1 to 8. */
+uint64_t hoidrul_vet(const uint8_t *file, size_t len, size_t section);
+
+/* Opening. Answer: offset * 2^32 + length, both in bytes, of the section within `file`.
+ * Answers 0 where hoidrul_vet refuses; a section's offset is never 0, so 0 is no section. */
+uint64_t hoidrul_open(const uint8_t *file, size_t len, size_t section);
+
+#ifdef __cplusplus
+}
+#endif
+
+#endif

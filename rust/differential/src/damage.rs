@@ -1,0 +1,54 @@
+//! Valid files with one fault, each with the refusal that the fault must get.
+mod nodes;
+mod pairs;
+mod sections;
+
+use crate::generate::case_where;
+use crate::rng::Rng;
+use plain::{Case, Refusal};
+
+pub struct Damaged {
+    pub file: Vec<u8>,
+    pub refusal: Refusal,
+}
+
+pub type Damage = fn(&mut Rng) -> Damaged;
+
+pub const DAMAGES: [(&str, Damage); 20] = [
+    ("cut", pairs::cut),
+    ("lengthened", pairs::lengthened),
+    ("too long", pairs::too_long),
+    ("pair nudged", pairs::nudged),
+    ("pairs swapped", pairs::swapped),
+    ("pairs right modulo 65,536", pairs::wrapped),
+    ("label count", sections::label_count),
+    ("step section length", sections::step_length),
+    ("step range", sections::step_range),
+    ("step order", sections::step_order),
+    ("step repeated", sections::step_repeated),
+    ("rule length", sections::rule_length),
+    ("node count", sections::node_count),
+    ("root", sections::root),
+    ("kind", nodes::kind),
+    ("unused byte", nodes::unused_byte),
+    ("node range", nodes::range),
+    ("named node", nodes::named),
+    ("second binder", nodes::second_binder),
+    ("free variable", nodes::free_variable),
+];
+
+fn damaged(file: Vec<u8>, number: u32, place: usize) -> Damaged {
+    let refusal = Refusal::new(number, place);
+    Damaged { file, refusal }
+}
+
+/// A case with room in its file: sections that grow a little do not make it too long.
+fn roomy(rng: &mut Rng, wanted: impl Fn(&Case) -> bool) -> Case {
+    case_where(rng, |case| case.steps.len() <= 1024 && wanted(case))
+}
+
+/// `limit` itself half of the time, else it or anything above.
+fn beyond(rng: &mut Rng, limit: usize) -> u8 {
+    let highest = if rng.one_in(2) { limit } else { 255 };
+    rng.within(limit..=highest) as u8
+}

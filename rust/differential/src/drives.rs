@@ -1,0 +1,111 @@
+//! The cases of document 01's section "Drives to try", as data. The folder `cases` holds their files.
+use plain::{Case, Triple};
+
+/// Each case with the name of its file.
+pub fn drives() -> Vec<(&'static str, Case)> {
+    vec![
+        ("f.case", f()),
+        ("two_wheels.case", two_wheels()),
+        ("example_4.case", example_4()),
+        ("box.case", one_state(&[(7, 0, 0)])),
+        ("diamond.case", one_state(&[(6, 0, 0)])),
+        ("tau.case", one_state(&[(5, 0, 0)])),
+        ("mu.case", one_state(&[(4, 0, 0), (11, 0, 0)])),
+        ("nu.case", one_state(&[(4, 0, 0), (12, 0, 0)])),
+        ("chop_and.case", chop_and()),
+        ("and_chops.case", and_chops()),
+    ]
+}
+
+/// Case F: μY.⟨b⟩ or ⟨a⟩;νZ.Y;Z;Y with a = 0, b = 1, Y = 0, Z = 1.
+pub fn f() -> Case {
+    let nodes = [
+        (4, 0, 0),
+        (4, 1, 0),
+        (10, 0, 1),
+        (10, 2, 0),
+        (12, 1, 3),
+        (6, 0, 0),
+        (10, 5, 4),
+        (6, 1, 0),
+        (8, 7, 6),
+        (11, 0, 8),
+    ];
+    case(&[0, 0], &[(0, 0, 1), (1, 1, 1)], &nodes)
+}
+
+/// μZ.(⟨1⟩ and ⟨2⟩) or Z;⟨0⟩ over rings of three and four states.
+fn two_wheels() -> Case {
+    let from_0 = [(0, 1, 1), (0, 2, 4)];
+    let three = [(1, 0, 2), (2, 0, 3), (3, 0, 1)];
+    let four = [(4, 0, 5), (5, 0, 6), (6, 0, 7), (7, 0, 4)];
+    let nodes = [
+        (6, 1, 0),
+        (6, 2, 0),
+        (9, 0, 1),
+        (4, 0, 0),
+        (6, 0, 0),
+        (10, 3, 4),
+        (8, 2, 5),
+        (11, 0, 6),
+    ];
+    case(&[0; 8], &[&from_0[..], &three, &four].concat(), &nodes)
+}
+
+/// νZ.μY.(⟨a⟩;Z) and ([b];(Y or τ);⟨b⟩) with a = 0, b = 1, Z = 0, Y = 1.
+fn example_4() -> Case {
+    let nodes = [
+        (6, 0, 0),
+        (4, 0, 0),
+        (10, 0, 1),
+        (7, 1, 0),
+        (4, 1, 0),
+        (5, 0, 0),
+        (8, 4, 5),
+        (10, 3, 6),
+        (6, 1, 0),
+        (10, 7, 8),
+        (9, 2, 9),
+        (11, 1, 10),
+        (12, 0, 11),
+    ];
+    case(&[0, 0], &[(0, 0, 0), (0, 1, 1), (1, 1, 0)], &nodes)
+}
+
+/// ⟨0⟩;(p0 and p1)
+fn chop_and() -> Case {
+    let nodes = [(6, 0, 0), (2, 0, 0), (2, 1, 0), (9, 1, 2), (10, 0, 3)];
+    fork(&nodes)
+}
+
+/// (⟨0⟩;p0) and (⟨0⟩;p1)
+fn and_chops() -> Case {
+    let nodes = [
+        (6, 0, 0),
+        (2, 0, 0),
+        (2, 1, 0),
+        (10, 0, 1),
+        (10, 0, 2),
+        (9, 3, 4),
+    ];
+    fork(&nodes)
+}
+
+/// State 0 steps to 1, which has proposition 0, and to 2, which has proposition 1.
+fn fork(nodes: &[Triple]) -> Case {
+    case(&[0, 1, 2], &[(0, 0, 1), (0, 0, 2)], nodes)
+}
+
+fn one_state(nodes: &[Triple]) -> Case {
+    case(&[0], &[], nodes)
+}
+
+/// The root of every drive is its last node.
+fn case(labels: &[u8], steps: &[Triple], nodes: &[Triple]) -> Case {
+    Case {
+        labels: labels.to_vec(),
+        steps: steps.to_vec(),
+        nodes: nodes.to_vec(),
+        root: nodes.len() as u8 - 1,
+    }
+}

@@ -1,0 +1,193 @@
+//! Valid cases: shared nodes, nested binders, unreached nodes with free variables.
+use crate::rng::Rng;
+use plain::{Case, Triple};
+
+/// A valid case and, for each node, its free variables: bit v for variable v.
+pub struct Drawn {
+    pub case: Case,
+    pub free: Vec<u16>,
+}
+
+pub fn case(rng: &mut Rng) -> Case {
+    drawn(rng).case
+}
+
+/// A case that `wanted` holds of.
+pub fn case_where(rng: &mut Rng, wanted: impl Fn(&Case) -> bool) -> Case {
+    drawn_where(rng, |drawn| wanted(&drawn.case)).case
+}
+
+pub fn drawn_where(rng: &mut Rng, wanted: impl Fn(&Drawn) -> bool) -> Drawn {
+    loop {
+        let drawn = drawn(rng);
+        if wanted(&drawn) {
+            return drawn;
+        }
+    }
+}
+
+fn drawn(rng: &mut Rng) -> Drawn {
+    let states = rng.within(1..=16);
+    let labels = rng.bytes(states);
+    let steps = steps(rng, states);
+    let (rule, root) = closed_rule(rng);
+    let case = Case {
+        labels,
+        steps,
+        nodes: rule.nodes,
+        root,
+    };
+    Drawn {
+        case,
+        free: rule.free,
+    }
+}
+
+/// Transitions in order, from none to all that there can be.
+fn steps(rng: &mut Rng, states: usize) -> Vec<Triple> {
+    let all = states * 8 * states;
+    let one_in = match rng.below(8) {
+        0 => return vec![],
+        1 => 1,
+        2 => 2,
+        _ => 1 + all / rng.within(1..=24),
+    };
+    let place = |i: usize| (i / states / 8, i / states % 8, i % states);
+    let taken = (0..all).filter(|_| rng.one_in(one_in)).map(place);
+    taken
+        .map(|(from, action, to)| (from as u8, action as u8, to as u8))
+        .collect()
+}
+
+/// A rule and a root without free variables; drawn again while every node has some.
+fn closed_rule(rng: &mut Rng) -> (Rule, u8) {
+    loop {
+        let rule = Rule::draw(rng);
+        let mut closed: Vec<usize> = (0..rule.nodes.len()).collect();
+        closed.retain(|&j| rule.free[j] == 0);
+        let deepest = closed.iter().copied().max_by_key(|&j| rule.depth[j]);
+        if let Some(deepest) = deepest {
+            let any = rng.pick(&closed);
+            let root = if rng.one_in(4) { any } else { deepest };
+            return (rule, root as u8);
+        }
+    }
+}
+
+/// A rule as it grows.
+#[derive(Default)]
+struct Rule {
+    nodes: Vec<Triple>,
+    free: Vec<u16>,
+    /// For each node the length of the longest path down from it.
+    depth: Vec<usize>,
+    /// Variables that have their binder: bit v for variable v.
+    bound: u16,
+}
+
+impl Rule {
+    fn draw(rng: &mut Rng) -> Rule {
+        let mut rule = Rule::default();
+        for _ in 0..rng.within(1..=64) {
+            let node = rule.node(rng);
+            rule.push(node);
+        }
+        if rng.one_in(2) {
+            rule.close_last(rng);
+        }
+        rule
+    }
+
+    fn push(&mut self, node: Triple) {
+        let (kind, a, b) = node;
+        let free = |named: u8| self.free[usize::from(named)];
+        let depth = |named: u8| 1 + self.depth[usize::from(named)];
+        let (free, depth) = match kind {
+            4 => (1 << a, 0),
+            8..=10 => (free(a) | free(b), depth(a).max(depth(b))),
+            11 | 12 => (free(b) & !(1 << a), depth(b)),
+            _ => (0, 0),
+        };
+        if kind >= 11 {
+            self.bound |= 1 << a;
+        }
+        self.nodes.push(node);
+        self.free.push(free);
+        self.depth.push(depth);
+    }
+
+    fn node(&self, rng: &mut Rng) -> Triple {
+        match rng.below(10) {
+            0..=1 => leaf(rng),
+            2..=3 => (4, self.variable(rng), 0),
+            _ if self.nodes.is_empty() => leaf(rng),
+            4..=7 => (8 + rng.byte_below(3), self.named(rng), self.named(rng)),
+            _ => {
+                let body = self.named(rng);
+                self.binder(rng, body)
+            }
+        }
+    }
+
+    /// Mostly a node whose free variables can still be bound; one of the latest, so that rules
+    /// grow deep, or any, so that they share.
+    fn named(&self, rng: &mut Rng) -> u8 {
+        let mut nodes: Vec<usize> = (0..self.nodes.len()).collect();
+        if !rng.one_in(32) {
+            nodes.retain(|&j| self.free[j] & self.bound == 0);
+        }
+        let Some(last) = nodes.len().checked_sub(1) else {
+            return 0;
+        };
+        let back = if rng.one_in(2) { last.min(2) } else { last };
+        nodes[last - rng.within(0..=back)] as u8
+    }
+
+    /// Mostly a variable that can still be bound.
+    fn variable(&self, rng: &mut Rng) -> u8 {
+        let unbound = ones(!self.bound);
+        if unbound.is_empty() || rng.one_in(8) {
+            return rng.byte_below(16);
+        }
+        rng.pick(&unbound[..unbound.len().min(3)])
+    }
+
+    /// Binds what is free in the body where it can; a leaf where every variable has its binder.
+    fn binder(&self, rng: &mut Rng, body: u8) -> Triple {
+        let unbound = !self.bound;
+        let wanted = ones(self.free[usize::from(body)] & unbound);
+        let possible = if wanted.is_empty() {
+            ones(unbound)
+        } else {
+            wanted
+        };
+        if possible.is_empty() {
+            return leaf(rng);
+        }
+        (11 + rng.byte_below(2), rng.pick(&possible), body)
+    }
+
+    /// Nests binders over the last node until it has no free variable, if they find room.
+    fn close_last(&mut self, rng: &mut Rng) {
+        while self.nodes.len() < 64 {
+            let last = self.nodes.len() - 1;
+            if self.free[last] & !self.bound == 0 {
+                return;
+            }
+            let node = self.binder(rng, last as u8);
+            self.push(node);
+        }
+    }
+}
+
+/// A node that names no other and is no variable.
+fn leaf(rng: &mut Rng) -> Triple {
+    match rng.pick(&[0, 1, 2, 3, 5, 6, 7]) {
+        kind @ (0 | 1 | 5) => (kind, 0, 0),
+        kind => (kind, rng.byte_below(8), 0),
+    }
+}
+
+fn ones(mask: u16) -> Vec<u8> {
+    (0..16).filter(|&bit| mask >> bit & 1 == 1).collect()
+}

@@ -1,0 +1,11 @@
+//! Random files and the comparison of the proved library with the plain checker.
+//!
+//! Everything is drawn from fixed seeds, so each run makes the same calls.
+#![forbid(unsafe_code)]
+
+pub mod damage;
+pub mod drives;
+pub mod generate;
+pub mod rng;
+pub mod strange;
+pub mod tally;

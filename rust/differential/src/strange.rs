@@ -1,0 +1,119 @@
+//! Files of which only the two checkers can tell what they get, and section numbers.
+use crate::generate::case;
+use crate::rng::Rng;
+use plain::{pack, write, Triple};
+
+pub type Strange = fn(&mut Rng) -> Vec<u8>;
+
+pub const STRANGE: [Strange; 6] = [
+    bytes_changed,
+    sections_swapped,
+    sections_cut_elsewhere,
+    any_sections,
+    any_nodes,
+    any_bytes,
+];
+
+/// A section number: often one that there is, sometimes one that a shorter word would take for it.
+pub fn section(rng: &mut Rng) -> usize {
+    const HUGE: [usize; 9] = [
+        256,
+        1 << 16,
+        (1 << 16) + 1,
+        1 << 32,
+        (1 << 32) + 2,
+        1 << 63,
+        usize::MAX,
+        usize::MAX - 1,
+        usize::MAX / 3,
+    ];
+    if rng.one_in(16) {
+        rng.pick(&HUGE)
+    } else {
+        rng.pick(&[0, 0, 0, 1, 1, 1, 2, 2, 2, 3, 4])
+    }
+}
+
+/// A few bytes of a valid file are others, often by one.
+fn bytes_changed(rng: &mut Rng) -> Vec<u8> {
+    let mut file = write(&case(rng));
+    for _ in 0..rng.within(1..=3) {
+        let back = if rng.one_in(2) { 193 } else { file.len() };
+        let at = file.len() - rng.within(1..=back.min(file.len()));
+        file[at] = match rng.below(4) {
+            0 => rng.byte(),
+            1 => rng.byte_below(16),
+            2 => file[at].wrapping_add(1),
+            _ => file[at].wrapping_sub(1),
+        };
+    }
+    file
+}
+
+fn sections_swapped(rng: &mut Rng) -> Vec<u8> {
+    let file = write(&case(rng));
+    let part = |section| &file[plain::open(&file, section).expect("a valid case")];
+    let orders = [[0, 2, 1], [1, 0, 2], [1, 2, 0], [2, 0, 1], [2, 1, 0]];
+    pack(&rng.pick(&orders).map(part))
+}
+
+/// Right pairs over the bytes of a valid file, with the borders moved a little.
+fn sections_cut_elsewhere(rng: &mut Rng) -> Vec<u8> {
+    let case = case(rng);
+    let file = write(&case);
+    let body = &file[12..];
+    let states = case.labels.len();
+    let mut moved = |border: usize| (border + rng.below(7)).saturating_sub(3).min(body.len());
+    let first = moved(states);
+    let second = moved(states + 3 * case.steps.len()).max(first);
+    pack(&[&body[..first], &body[first..second], &body[second..]])
+}
+
+/// Right pairs, sections of any length near the limits, small bytes.
+fn any_sections(rng: &mut Rng) -> Vec<u8> {
+    let mut section = |lengths: &[usize]| -> Vec<u8> {
+        let length = rng.pick(lengths);
+        (0..length).map(|_| rng.byte_below(8)).collect()
+    };
+    let labels = section(&[0, 1, 2, 8, 15, 16, 17, 18, 256, 257]);
+    let steps = section(&[0, 0, 0, 0, 1, 2, 3, 4, 6, 9]);
+    let rule = section(&[0, 1, 2, 3, 4, 5, 6, 7, 10, 190, 193, 194, 196, 769]);
+    pack(&[&labels, &steps, &rule])
+}
+
+/// A right state table under nodes that are mostly in range.
+fn any_nodes(rng: &mut Rng) -> Vec<u8> {
+    let mut case = case(rng);
+    let count = rng.within(1..=8);
+    case.nodes = (0..count).map(|number| any_node(rng, number)).collect();
+    case.root = rng.byte_below(count);
+    write(&case)
+}
+
+fn any_node(rng: &mut Rng, number: usize) -> Triple {
+    match rng.byte_below(14) {
+        kind @ 8..=10 => (kind, rng.byte_below(number + 1), rng.byte_below(number + 1)),
+        kind @ (11 | 12) => (kind, rng.byte_below(17), rng.byte_below(number + 1)),
+        4 => (4, rng.byte_below(3), 0),
+        kind => (kind, 0, 0),
+    }
+}
+
+/// Bytes without meaning; every other file begins as a case does.
+fn any_bytes(rng: &mut Rng) -> Vec<u8> {
+    const LENGTHS: [usize; 14] = [
+        0, 1, 4, 11, 12, 13, 16, 51, 100, 6364, 6365, 6366, 65_535, 70_000,
+    ];
+    let length = if rng.one_in(4) {
+        rng.pick(&LENGTHS)
+    } else {
+        rng.below(80)
+    };
+    let mut file = rng.bytes(length);
+    if rng.one_in(2) {
+        file.iter_mut()
+            .zip([12, 0, 2, 0, 14, 0, 0, 0, 14, 0])
+            .for_each(|(byte, right)| *byte = right);
+    }
+    file
+}

@@ -1,0 +1,68 @@
+//! The comparison of the two checkers, and a count of what was compared.
+use plain::Refusal;
+use std::hint::black_box;
+use std::ops::Range;
+
+/// What vetting replies: n and m, or a refusal.
+pub type Reply = Result<(usize, usize), Refusal>;
+
+/// How often each reply came.
+#[derive(Debug, Default)]
+pub struct Tally {
+    /// Calls of the proved library.
+    pub calls: usize,
+    pub answers: usize,
+    /// By number; index 0 is unused.
+    pub refusals: [usize; 14],
+    /// Those of them whose place is not 0.
+    pub placed: [usize; 14],
+}
+
+impl Tally {
+    /// Vets and opens by both checkers, which must agree, and returns their reply.
+    pub fn compare(&mut self, file: &[u8], section: usize) -> Reply {
+        let reply = compare(file, section);
+        self.calls += 2;
+        match reply {
+            Ok(_) => self.answers += 1,
+            Err(refusal) => {
+                self.refusals[refusal.number as usize] += 1;
+                self.placed[refusal.number as usize] += usize::from(refusal.place != 0);
+            }
+        }
+        reply
+    }
+}
+
+/// Vets and opens by both checkers, which must agree, and returns their reply.
+pub fn compare(file: &[u8], section: usize) -> Reply {
+    let before = file.to_vec();
+    let proved = proved_reply(file, section);
+    let part = part_of(file, hoidrul::open(file, section));
+    assert!(black_box(file) == before, "the lent file was changed");
+
+    let plain = plain::vet(file, section);
+    assert_eq!(proved, plain, "vetting section {section} of {file:?}");
+    // Where opening refuses, the part is empty and begins with the file.
+    let expected = plain::open(file, section).unwrap_or(0..0);
+    assert_eq!(part, expected, "opening section {section} of {file:?}");
+    plain
+}
+
+fn proved_reply(file: &[u8], section: usize) -> Reply {
+    match hoidrul::vet(file, section) {
+        Ok(counts) => Ok((counts.states, counts.nodes)),
+        Err(refusal) => Err(Refusal::new(refusal.number, refusal.place)),
+    }
+}
+
+/// Where the part stands within the file: by its address, so that a copy is not taken for it.
+fn part_of(file: &[u8], part: &[u8]) -> Range<usize> {
+    let (lent, given) = (file.as_ptr_range(), part.as_ptr_range());
+    assert!(
+        lent.start <= given.start && given.end <= lent.end,
+        "a part outside the lent file"
+    );
+    let start = given.start as usize - lent.start as usize;
+    start..start + part.len()
+}

@@ -1,0 +1,162 @@
+//! The last value that passes and the first that does not, by both checkers.
+use differential::tally::{compare, Reply};
+use plain::{pack, write, Case, Refusal, Triple};
+
+fn refused(number: u32, place: usize) -> Reply {
+    Err(Refusal::new(number, place))
+}
+
+fn vetted(states: usize, steps: &[Triple], nodes: &[Triple]) -> Reply {
+    let case = Case {
+        labels: vec![255; states],
+        steps: steps.to_vec(),
+        nodes: nodes.to_vec(),
+        root: 0,
+    };
+    compare(&write(&case), 0)
+}
+
+const TT: Triple = (0, 0, 0);
+
+#[test]
+fn states() {
+    assert_eq!(vetted(0, &[], &[TT]), refused(2, 0));
+    assert_eq!(vetted(1, &[], &[TT]), Ok((1, 1)));
+    assert_eq!(vetted(16, &[(15, 0, 15)], &[TT]), Ok((16, 1)));
+    assert_eq!(vetted(16, &[(15, 0, 16)], &[TT]), refused(3, 0));
+    assert_eq!(vetted(16, &[(16, 0, 15)], &[TT]), refused(3, 0));
+    assert_eq!(vetted(17, &[], &[TT]), refused(2, 0));
+}
+
+#[test]
+fn actions() {
+    assert_eq!(vetted(1, &[(0, 7, 0)], &[TT]), Ok((1, 1)));
+    assert_eq!(vetted(1, &[(0, 8, 0)], &[TT]), refused(3, 0));
+}
+
+#[test]
+fn node_counts() {
+    assert_eq!(vetted(1, &[], &[]), refused(4, 0));
+    assert_eq!(vetted(1, &[], &[TT; 64]), Ok((1, 64)));
+    assert_eq!(vetted(1, &[], &[TT; 65]), refused(4, 0));
+}
+
+/// For each kind the highest A and B of node 1, and those just above.
+#[test]
+fn node_bytes() {
+    let highest = [
+        (0, 0, 0),
+        (1, 0, 0),
+        (2, 7, 0),
+        (3, 7, 0),
+        (4, 15, 0),
+        (5, 0, 0),
+        (6, 7, 0),
+        (7, 7, 0),
+        (8, 0, 0),
+        (9, 0, 0),
+        (10, 0, 0),
+        (11, 15, 0),
+        (12, 15, 0),
+    ];
+    for (kind, a, b) in highest {
+        assert_eq!(vetted(1, &[], &[TT, (kind, a, b)]), Ok((1, 2)));
+        assert_eq!(vetted(1, &[], &[TT, (kind, a + 1, b)]), refused(5, 1));
+        assert_eq!(vetted(1, &[], &[TT, (kind, a, b + 1)]), refused(5, 1));
+        assert_eq!(vetted(1, &[], &[TT, (kind, 255, b)]), refused(5, 1));
+        assert_eq!(vetted(1, &[], &[TT, (kind, a, 255)]), refused(5, 1));
+    }
+    assert_eq!(vetted(1, &[], &[TT, (13, 0, 0)]), refused(5, 1));
+    assert_eq!(vetted(1, &[], &[TT, (255, 0, 0)]), refused(5, 1));
+}
+
+/// Every variable has a binder and is bound.
+#[test]
+fn variables() {
+    let mut nodes: Vec<Triple> = (0..16).map(|variable| (4, variable, 0)).collect();
+    nodes.extend((0..15).map(|i| (8, if i == 0 { 0 } else { 15 + i }, i + 1)));
+    nodes.extend((0..16).map(|i| (11 + i % 2, i, 30 + i)));
+    let mut case = Case {
+        labels: vec![0],
+        steps: vec![],
+        nodes,
+        root: 46,
+    };
+    assert_eq!(compare(&write(&case), 2), Ok((1, 47)));
+    for root in 0..46 {
+        case.root = root;
+        assert_eq!(compare(&write(&case), 2), refused(7, 0));
+    }
+}
+
+/// 16 states with every transition that there can be, and 64 nodes.
+fn longest() -> Case {
+    let steps = |i: usize| ((i / 128) as u8, (i / 16 % 8) as u8, (i % 16) as u8);
+    Case {
+        labels: vec![0; 16],
+        steps: (0..2048).map(steps).collect(),
+        nodes: vec![TT; 64],
+        root: 63,
+    }
+}
+
+#[test]
+fn file_lengths() {
+    let mut case = longest();
+    let mut file = write(&case);
+    assert_eq!(file.len(), 6365);
+    for section in 0..3 {
+        assert_eq!(compare(&file, section), Ok((16, 64)));
+    }
+    assert_eq!(compare(&file[..6364], 0), refused(1, 0));
+    file.push(0);
+    assert_eq!(compare(&file, 0), refused(1, 0));
+
+    // Right pairs, so only the length of the file is wrong for row 1.
+    case.labels.push(0);
+    assert_eq!(write(&case).len(), 6366);
+    assert_eq!(compare(&write(&case), 0), refused(1, 0));
+    case.steps.pop();
+    assert_eq!(compare(&write(&case), 0), refused(2, 0));
+}
+
+/// Zeros, and right pairs over nothing but labels, of every length near a border.
+#[test]
+fn lengths_near_the_borders() {
+    let near = || (12..=40).chain(6350..=6380).chain(65_520..=65_535);
+    for length in (0..12).chain(near()) {
+        assert_eq!(compare(&vec![0; length], 0), refused(1, 0), "{length}");
+    }
+    for length in near() {
+        let row = match length {
+            13..=28 => 4,
+            12..=6365 => 2,
+            _ => 1,
+        };
+        let file = pack(&[&vec![0; length - 12], &[], &[]]);
+        assert_eq!(compare(&file, 0), refused(row, 0), "{length}");
+    }
+}
+
+#[test]
+fn the_last_triple_is_looked_at() {
+    let mut case = longest();
+    case.steps[2047].1 = 8;
+    assert_eq!(compare(&write(&case), 0), refused(3, 2047));
+}
+
+/// Each node names the one below twice: 2^63 paths, but 64 nodes.
+#[test]
+fn shared_nodes_are_looked_at_once() {
+    for (bottom, reply) in [(TT, Ok((1, 64))), ((4, 9, 0), refused(7, 0))] {
+        let mut nodes = vec![bottom];
+        nodes.extend((0..63).map(|below| (8 + below % 3, below, below)));
+        let case = Case {
+            labels: vec![0],
+            steps: vec![],
+            nodes,
+            root: 63,
+        };
+        assert_eq!(compare(&write(&case), 2), reply);
+    }
+}

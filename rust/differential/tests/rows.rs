@@ -1,0 +1,160 @@
+//! Rows 1 to 8 of document 01's table of refusals, by both checkers.
+use differential::drives;
+use differential::tally::{compare, Reply};
+use plain::{pack, write, Case, Refusal};
+
+fn refused(number: u32, place: usize) -> Reply {
+    Err(Refusal::new(number, place))
+}
+
+/// Case F with a change.
+fn f_with(change: impl FnOnce(&mut Case)) -> Vec<u8> {
+    let mut case = drives::f();
+    change(&mut case);
+    write(&case)
+}
+
+#[test]
+fn case_f_is_answered() {
+    for section in 0..=2 {
+        assert_eq!(compare(&f_with(|_| ()), section), Ok((2, 10)));
+    }
+}
+
+#[test]
+fn examples_of_the_table() {
+    let examples = [
+        (vec![], refused(1, 0)),
+        (f_with(|f| f.labels = vec![0; 17]), refused(2, 0)),
+        (f_with(|f| f.steps[0] = (0, 0, 2)), refused(3, 0)),
+        (f_with(|f| f.root = 10), refused(4, 0)),
+        (f_with(|f| f.nodes[2] = (10, 0, 2)), refused(5, 2)),
+        (f_with(|f| f.nodes[4] = (12, 0, 3)), refused(6, 9)),
+        (f_with(|f| f.root = 4), refused(7, 0)),
+    ];
+    for (file, reply) in examples {
+        assert_eq!(compare(&file, 0), reply);
+    }
+    // The example of row 8 is a set; vetting has the section number.
+    assert_eq!(compare(&f_with(|_| ()), 3), refused(8, 0));
+}
+
+/// A file with the faults of several rows gets the lowest of them.
+#[test]
+fn rows_are_tested_in_rising_number() {
+    type Fault = fn(&mut Case);
+    let faults: [(u32, usize, Fault); 6] = [
+        (7, 0, |f| f.root = 4),
+        (6, 9, |f| f.nodes[4] = (12, 0, 3)),
+        (5, 7, |f| f.nodes[7] = (6, 8, 0)),
+        (4, 0, |f| f.root = 10),
+        (3, 1, |f| f.steps[1] = (0, 0, 1)),
+        (2, 0, |f| f.labels.clear()),
+    ];
+    let mut case = drives::f();
+    for (number, place, fault) in faults {
+        fault(&mut case);
+        assert_eq!(compare(&write(&case), 3), refused(number, place));
+    }
+    let mut file = write(&case);
+    file.push(0);
+    assert_eq!(compare(&file, 3), refused(1, 0));
+}
+
+#[test]
+fn places_are_the_lowest() {
+    let examples = [
+        // Out of order: the later of the two.
+        (f_with(|f| f.steps.swap(0, 1)), refused(3, 1)),
+        (f_with(|f| f.steps[1] = (0, 0, 1)), refused(3, 1)),
+        (
+            f_with(|f| f.steps = vec![(0, 0, 1), (2, 0, 0), (0, 0, 0)]),
+            refused(3, 1),
+        ),
+        (
+            f_with(|f| f.steps = vec![(0, 0, 1), (0, 8, 1), (0, 0, 2)]),
+            refused(3, 1),
+        ),
+        (
+            f_with(|f| (f.nodes[3], f.nodes[8]) = ((13, 0, 0), (13, 0, 0))),
+            refused(5, 3),
+        ),
+        // Three binders of one variable: the second.
+        (
+            f_with(|f| (f.nodes[4], f.nodes[5]) = ((12, 0, 3), (11, 0, 3))),
+            refused(6, 5),
+        ),
+    ];
+    for (file, reply) in examples {
+        assert_eq!(compare(&file, 1), reply);
+    }
+}
+
+#[test]
+fn section_lengths() {
+    let labels = [0, 0];
+    let tt = [0, 0, 0, 0];
+    let examples = [
+        (pack(&[&[], &[], &[]]), refused(2, 0)),
+        (pack(&[&labels, &[], &[]]), refused(4, 0)),
+        (pack(&[&labels, &[], &[0]]), refused(4, 0)),
+        (pack(&[&labels, &[], &tt[..3]]), refused(4, 0)),
+        (pack(&[&labels, &[], &[0, 0, 0, 0, 0]]), refused(4, 0)),
+        (pack(&[&labels, &[], &[0, 0, 0, 0, 0, 0]]), refused(4, 0)),
+        (pack(&[&labels, &[], &tt]), Ok((2, 1))),
+        // No multiple of 3 is told before any triple is looked at.
+        (pack(&[&labels, &[0, 0, 0, 9, 9, 9, 0], &tt]), refused(3, 0)),
+        (pack(&[&labels, &[0, 0, 0, 9, 9, 9], &tt]), refused(3, 1)),
+        (pack(&[&labels, &[0], &tt]), refused(3, 0)),
+    ];
+    for (file, reply) in examples {
+        assert_eq!(compare(&file, 1), reply);
+    }
+}
+
+/// Unreached nodes may have free variables, but rows 5 and 6 look at them.
+#[test]
+fn unreached_nodes() {
+    let with =
+        |nodes: &[plain::Triple], root| f_with(|f| (f.nodes, f.root) = (nodes.to_vec(), root));
+    let examples = [
+        (with(&[(0, 0, 0), (4, 3, 0)], 0), Ok((2, 2))),
+        (with(&[(0, 0, 0), (4, 3, 0), (11, 2, 1)], 0), Ok((2, 3))),
+        (with(&[(0, 0, 0), (4, 16, 0)], 0), refused(5, 1)),
+        (with(&[(0, 0, 0), (11, 2, 0), (12, 2, 0)], 0), refused(6, 2)),
+    ];
+    for (file, reply) in examples {
+        assert_eq!(compare(&file, 2), reply);
+    }
+}
+
+/// A variable is free if one path to it meets no binder, though another one does.
+#[test]
+fn free_on_one_path() {
+    let with = |root, top| {
+        let nodes = vec![(4, 0, 0), (11, 0, 0), top];
+        f_with(|f| (f.nodes, f.root) = (nodes, root))
+    };
+    assert_eq!(compare(&with(1, (8, 1, 0)), 2), Ok((2, 3)));
+    assert_eq!(compare(&with(2, (8, 1, 1)), 2), Ok((2, 3)));
+    assert_eq!(compare(&with(2, (8, 1, 0)), 2), refused(7, 0));
+    assert_eq!(compare(&with(2, (10, 0, 1)), 2), refused(7, 0));
+}
+
+#[test]
+fn section_numbers_beyond_the_case() {
+    let file = f_with(|_| ());
+    let wide = [1 << 16, (1 << 16) + 2, 1 << 32, (1 << 32) + 1, usize::MAX];
+    for section in [3, 4, 255, 256, 257].into_iter().chain(wide) {
+        assert_eq!(compare(&file, section), refused(8, 0), "section {section}");
+    }
+}
+
+/// Every beginning of the file is turned back, though the rest of it stands behind.
+#[test]
+fn beginnings_are_no_cases() {
+    let file = f_with(|_| ());
+    for length in 0..file.len() {
+        assert_eq!(compare(&file[..length], 0), refused(1, 0));
+    }
+}

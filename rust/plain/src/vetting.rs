@@ -1,0 +1,120 @@
+//! Vetting and opening: rows 1 to 8, in rising number.
+use crate::case::{Case, Triple};
+use crate::free::free_variables;
+use crate::node::Node;
+use crate::refusal::Refusal;
+use std::ops::Range;
+
+const SECTIONS: usize = 3;
+const PAIRS_LENGTH: usize = 4 * SECTIONS;
+const LONGEST_CASE: usize = 6365;
+const MOST_STATES: usize = 16;
+const MOST_NODES: usize = 64;
+const HIGHEST_ACTION: u8 = 7;
+
+/// The counts of states and nodes: n and m.
+pub fn vet(file: &[u8], section: usize) -> Result<(usize, usize), Refusal> {
+    let case = parse(file)?;
+    Refusal::unless(section < SECTIONS, 8, 0)?;
+    Ok((case.labels.len(), case.nodes.len()))
+}
+
+/// Where the section stands in the file.
+pub fn open(file: &[u8], section: usize) -> Result<Range<usize>, Refusal> {
+    vet(file, section)?;
+    Ok(sections(file)?[section].clone())
+}
+
+/// The case of a file that rows 1 to 7 do not meet.
+pub fn parse(file: &[u8]) -> Result<Case, Refusal> {
+    let [labels, steps, rule] = sections(file)?;
+    let labels = parse_labels(&file[labels])?;
+    let steps = parse_steps(&file[steps], labels.len())?;
+    let (triples, root) = parse_rule(&file[rule])?;
+    let nodes = read_nodes(&triples)?;
+    check_binders(&nodes)?;
+    check_closed(&nodes, usize::from(root))?;
+    Ok(Case {
+        labels,
+        steps,
+        nodes: triples,
+        root,
+    })
+}
+
+/// Row 1: the sections follow one another from the end of the pairs to the end of the file.
+fn sections(file: &[u8]) -> Result<[Range<usize>; SECTIONS], Refusal> {
+    Refusal::unless((PAIRS_LENGTH..=LONGEST_CASE).contains(&file.len()), 1, 0)?;
+    let sections: [Range<usize>; SECTIONS] = std::array::from_fn(|section| pair(file, section));
+    let mut end = PAIRS_LENGTH;
+    for section in &sections {
+        Refusal::unless(section.start == end, 1, 0)?;
+        end = section.end;
+    }
+    Refusal::unless(end == file.len(), 1, 0)?;
+    Ok(sections)
+}
+
+/// What a pair of offset and length says, true or not.
+fn pair(file: &[u8], section: usize) -> Range<usize> {
+    let number = |at: usize| usize::from(u16::from_le_bytes([file[at], file[at + 1]]));
+    let offset = number(4 * section);
+    offset..offset + number(4 * section + 2)
+}
+
+/// Row 2.
+fn parse_labels(section: &[u8]) -> Result<Vec<u8>, Refusal> {
+    Refusal::unless((1..=MOST_STATES).contains(&section.len()), 2, 0)?;
+    Ok(section.to_vec())
+}
+
+/// Row 3: transitions between the states, strictly rising.
+fn parse_steps(section: &[u8], states: usize) -> Result<Vec<Triple>, Refusal> {
+    Refusal::unless(section.len().is_multiple_of(3), 3, 0)?;
+    let mut steps: Vec<Triple> = Vec::new();
+    for (place, step) in triples(section).into_iter().enumerate() {
+        let (from, action, to) = step;
+        let in_range =
+            usize::from(from) < states && usize::from(to) < states && action <= HIGHEST_ACTION;
+        let rising = steps.last().is_none_or(|&before| before < step);
+        Refusal::unless(in_range && rising, 3, place)?;
+        steps.push(step);
+    }
+    Ok(steps)
+}
+
+/// Row 4: the nodes' bytes and the root.
+fn parse_rule(section: &[u8]) -> Result<(Vec<Triple>, u8), Refusal> {
+    let (&root, nodes) = section.split_last().ok_or(Refusal::new(4, 0))?;
+    let count = nodes.len() / 3;
+    let length_fits = nodes.len() == 3 * count && (1..=MOST_NODES).contains(&count);
+    Refusal::unless(length_fits && usize::from(root) < count, 4, 0)?;
+    Ok((triples(nodes), root))
+}
+
+/// Row 5.
+fn read_nodes(triples: &[Triple]) -> Result<Vec<Node>, Refusal> {
+    let read = |(number, &triple)| Node::read(triple, number).ok_or(Refusal::new(5, number));
+    triples.iter().enumerate().map(read).collect()
+}
+
+/// Row 6: no variable has two binders, reached or not.
+fn check_binders(nodes: &[Node]) -> Result<(), Refusal> {
+    let mut bound = Vec::new();
+    for (number, node) in nodes.iter().enumerate() {
+        if let Some(variable) = node.bound() {
+            Refusal::unless(!bound.contains(&variable), 6, number)?;
+            bound.push(variable);
+        }
+    }
+    Ok(())
+}
+
+/// Row 7.
+fn check_closed(nodes: &[Node], root: usize) -> Result<(), Refusal> {
+    Refusal::unless(free_variables(nodes, root).is_empty(), 7, 0)
+}
+
+fn triples(bytes: &[u8]) -> Vec<Triple> {
+    bytes.chunks_exact(3).map(|t| (t[0], t[1], t[2])).collect()
+}
