@@ -4,14 +4,13 @@ use mathlib.Core.List.{List}
 use mathlib.Core.Path.{_≡_, refl, sym, ap, subst, _∙_}
 use native.Mathlib.Omega.{arith}
 use lib.Dec.{ltb}
-use lib.ListN.{length}
 use Rattle.case_model.specs.Bytes.{byteAt, sections}
 use Rattle.case_model.specs.Case.{read}
 use Rattle.case_model.specs.Rows.{Found, sound, refused, _orElse_, mostStates, mostNodes, row8, refusals}
 use Rattle.case_model.specs.Replies.{Counts, counts, replied, answers, refuses, vetting}
 use Rattle.case_model.proofs.Sections.{left-sound}
-use Rattle.case_model.proofs.Valid.{Valid, accepted-valid}
-use Rattle.case_model.proofs.Places.{Placed, nowhere, somewhere, vetted-placed}
+use Rattle.case_model.proofs.Valid.{accepted-valid}
+use Rattle.case_model.proofs.Places.{Placed, somewhere, later, refusals-placed}
 use Rattle.case_file.specs.Told.{number, told, countsOf}
 use Rattle.case_file.specs.declared.reason.Reason.{Reason}
 use Rattle.case_file.specs.declared.reason.Reason.the-variants as reason
@@ -44,14 +43,18 @@ case-small f k x q e =
       nodes = subst (λ (n : ℕ). n ≤ mostNodes) (ap (λ (y : Counts). y .nodes) same) (c .most);
     }
 
-pub place-small : (f : List ℕ) → ((i : ℕ) → byteAt f i < 256) → (k : ℕ) {v : Vetted} (x : Refusal) → v ≡ vetted.Refused x → told v ≡ vetting f k
-    → x .place < 2 ^ 32
-unfolding vetting
-place-small f bytes k x q e =
-    small (subst Placed (replied-refused (refusals f orElse row8 k sections) (counts (read f)) _ _ (sym e ∙ ap told q)) (vetted-placed f bytes (ltb k sections)))
+-- the place of a refusal that was found by rows with small places
+pub place-small : {A : Type 0} {r : Found} → Placed r → (a : A) (k p : ℕ) → replied r a ≡ refuses k p → p < 2 ^ 32
+place-small {r = r} h a k p e = small (subst Placed (replied-refused r a k p e) h)
   where
     small : {k p : ℕ} → Placed (refused k p) → p < 2 ^ 32
-    small (somewhere h) = h
+    small (somewhere l) = l
+
+pub vetted-small : (f : List ℕ) → ((i : ℕ) → byteAt f i < 256) → (k : ℕ) {v : Vetted} (x : Refusal) → v ≡ vetted.Refused x → told v ≡ vetting f k
+    → x .place < 2 ^ 32
+unfolding vetting
+vetted-small f bytes k x q e =
+    place-small (later (refusals-placed f bytes) (ltb k sections) 8) (counts (read f)) (number (x .reason)) (x .place) (sym e ∙ ap told q)
 
 pub number-small : (r : Reason) → number r ≤ 13
 number-small reason.Pairs = omega arith

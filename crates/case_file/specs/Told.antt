@@ -46,6 +46,11 @@ abbrev pub told : Vetted → Reply Counts
 told (vetted.Case c) = answers (countsOf c)
 told (vetted.Refused r) = refuses (number (r .reason)) (r .place)
 
+-- the refusal of an answer that is one; of a case, a refusal that nobody asks for
+abbrev pub refusalOf : Vetted → Refusal
+refusalOf (vetted.Refused r) = r
+refusalOf (vetted.Case c) = record { reason = reason.Pairs; place = 0 }
+
 -- the test of each search
 abbrev pub wrong : model.Case → Search → ℕ → Bool
 wrong c search.Step i = stepWrong c i

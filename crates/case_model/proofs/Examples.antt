@@ -1,6 +1,6 @@
 -- The examples of the table of refusals, rows 1 to 8, and case F's bytes, computed from the definitions.
 -- By computation: a slip in a row, or two rows exchanged, makes one of these equations false.
-use Prim.Native.Nat.{ℕ, suc}
+use Prim.Native.Nat.{ℕ}
 use mathlib.Core.List.{List, [], _∷_}
 use mathlib.Core.Path.{_≡_, refl}
 use lib.ListN.{replicate, set}
@@ -8,7 +8,7 @@ use Rattle.flc.specs.Sets.{both, either, forAll, forSome, first}
 use Rattle.flc.specs.Formula.{free}
 use Rattle.flc.specs.Nodes.{lower, formulaAt}
 use Rattle.case_model.specs.Bytes.{listOf, chained, pairsHold, section, packed}
-use Rattle.case_model.specs.Case.{Triple, Case, write, kinds, nodeOf, nodeAt, rule}
+use Rattle.case_model.specs.Case.{Triple, write, kinds, nodeOf, nodeAt, rule}
 use Rattle.case_model.specs.Rows.{lowest, rootClosed, refusals}
 use Rattle.case_model.specs.Replies.{answers, refuses, vetting, opening}
 

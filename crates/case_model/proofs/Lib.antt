@@ -1,4 +1,5 @@
 pub mod Examples
+pub mod EditExamples
 pub mod Lists
 pub mod Tests
 pub mod Sections
@@ -11,3 +12,14 @@ pub mod Nodes
 pub mod Accepting
 pub mod Written
 pub mod Places
+pub mod StepOrder
+pub mod MovedStates
+pub mod Merged
+pub mod Unlike
+pub mod Lawful
+pub mod RenamedNodes
+pub mod Swapped
+pub mod NineLaws
+pub mod Rewritten
+pub mod Demand
+pub mod Runs

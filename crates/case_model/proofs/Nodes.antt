@@ -60,7 +60,7 @@ holds-fits j x e = go (nodeOf x) (kind x)
     go _ (beyond l) = fits-constant _
 
 -- the nodes that it names
-fits-names : {j : ℕ} (n : Node) → Fits j n → (i : ℕ) → Names n i → i < j
+pub fits-names : {j : ℕ} (n : Node) → Fits j n → (i : ℕ) → Names n i → i < j
 fits-names _ (fits-constant x) i h = absurd h
 fits-names _ (fits-variable v l) i h = absurd h
 fits-names _ (fits-pair o a b p q) i (inl e) = omega arith

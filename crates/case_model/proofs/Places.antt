@@ -33,21 +33,25 @@ at-lowest k wrong c h = go (eqb (first wrong 0 c) c)
     go true = nowhere
     go false = somewhere {p = first wrong 0 c} (omega (arith, first-le wrong 0 c))
 
-pub vetted-placed : (f : List ℕ) → ((i : ℕ) → byteAt f i < 256) → (t : Bool) → Placed (refusals f orElse unless t 8 0)
+-- a row whose place is 0, after others
+pub later : {a : Found} → Placed a → (t : Bool) (k : ℕ) → Placed (a orElse unless t k 0)
+later p t k = then p (at-zero t k)
+
+pub refusals-placed : (f : List ℕ) → ((i : ℕ) → byteAt f i < 256) → Placed (refusals f)
 unfolding refusals
-vetted-placed f bytes t =
+refusals-placed f bytes =
     let c : Case = read f in
-    then
+    later
     (then
     (then
-    (then
-    (then
-    (then (then (at-zero (pairsHold f) 1) (at-zero (labelsHold c) 2)) (then (at-zero (eqb (size f 1 % 3) 0) 3) (at-lowest 3 (stepWrong c) _ (few 1))))
-    (at-zero (ruleHolds f c) 4))
+    (later
+    (then (later (at-zero (pairsHold f) 1) (labelsHold c) 2) (then (at-zero (eqb (size f 1 % 3) 0) 3) (at-lowest 3 (stepWrong c) _ (few 1))))
+    (ruleHolds f c)
+    4)
     (at-lowest 5 (nodeWrong c) _ (few 2)))
     (at-lowest 6 (binderWrong c) _ (few 2)))
-    (at-zero (rootClosed c) 7))
-    (at-zero t 8)
+    (rootClosed c)
+    7
   where
     few : (k : ℕ) → length (triples f k) < 2 ^ 32
     few k = rw (length-listOf (size f k / 3)) (omega (arith, bytes (4 * k + 2), bytes (4 * k + 2 + 1)))

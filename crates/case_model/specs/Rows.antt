@@ -7,7 +7,7 @@ use lib.Dec.{eqb, leb, ltb}
 use Rattle.flc.specs.Sets.{forAll, forSome, first}
 use Rattle.flc.specs.Formula.{free}
 use Rattle.flc.specs.Bisimulation.{actions}
-use Rattle.case_model.specs.Bytes.{size, sections, pairsHold}
+use Rattle.case_model.specs.Bytes.{size, pairsHold}
 use Rattle.case_model.specs.Case.{Triple, Case, read, at, rule}
 
 -- "n = 1 to 16 states", "m = 1 to 64 nodes", "proposition i (0 to 7)", "variable 0 to 15"

@@ -2,7 +2,7 @@
 use borrow.Author.Needs.{needs}
 use denote.Ref.{now}
 use native.Mathlib.Omega.{arith}
-use Rattle.case_file.proofs.Answers.{case-small, place-small}
+use Rattle.case_file.proofs.Answers.{case-small, vetted-small}
 use Rattle.hoidrul.proofs.hoidrul_vet.Statement.{statement}
 use Rattle.hoidrul.proofs.hoidrul_vet.Tie as tie
 
@@ -35,7 +35,7 @@ refused-requires : tie.Need-refused-requires
 refused-requires c κs =
     let v = c .before in
     let s = v .before .before .before in
-    place-small (now (s .before .args .file)) (λ i. omega (arith, s .shared-slice-known .given i)) (s .before .args .section) (v .vetted2 .given .0 .0) (v .vetted2 .given .1) (v .before .before .vet .ensures)
+    vetted-small (now (s .before .args .file)) (λ i. omega (arith, s .shared-slice-known .given i)) (s .before .args .section) (v .vetted2 .given .0 .0) (v .vetted2 .given .1) (v .before .before .vet .ensures)
 
 returns : tie.Need-returns
 returns c =

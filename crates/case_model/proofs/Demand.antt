@@ -1,0 +1,171 @@
+-- Demand 3 of the plain book: its file stays accepted, and a state holds in the first case exactly if the state standing for it holds in the last.
+-- An accepted edit keeps both, by what merging and rewriting keep of a valid case; a refused one changes nothing.
+use Prim.Native.Nat.{ℕ, _^_, _≤_, _<_, min, max}
+use mathlib.Core.Bool.{Bool, true}
+use mathlib.Core.List.{List, [], _∷_}
+use mathlib.Core.Path.{_≡_, refl, sym, ap, _∙_, subst}
+use native.Mathlib.Decide.{decLt}
+use native.Mathlib.Omega.{arith}
+use borrow.Author.Tests.{ltb-true, leb-true, eqb-false, not-true}
+use lib.Dec.{T, eqb, leb}
+use lib.ListN.{length}
+use Rattle.flc.specs.Sets.{has}
+use Rattle.flc.specs.Bisimulation.{alike}
+use Rattle.flc.proofs.Masks.{setOf-lt}
+use Rattle.case_model.specs.Case.{Triple, Case, read, write, table}
+use Rattle.case_model.specs.Rows.{Found, sound, refused, _orElse_, unless, row8, mostNodes, refusals}
+use Rattle.case_model.specs.Replies.{Reply, answers, refuses, replied}
+use Rattle.case_model.specs.Judging.{Verdict, verdict, row9, judging}
+use Rattle.case_model.specs.Merging.{row13, moved, merge, row10, merging}
+use Rattle.case_model.specs.Rewriting.{Change, nothing, swap, change, isThere, rewrite, rewriting}
+use Rattle.case_model.specs.Book.{Edit, merges, rewrites, Book, begun, reply, restood, entered, turn, book}
+use Rattle.case_model.specs.Run.{allStates}
+use Rattle.case_model.proofs.Tests.{and-l, and-r}
+use Rattle.case_model.proofs.Sections.{left-sound, right-sound, unless-sound}
+use Rattle.case_model.proofs.Valid.{Valid, accepted-valid}
+use Rattle.case_model.proofs.Codec.{read-write}
+use Rattle.case_model.proofs.Accepting.{valid-accepted}
+use Rattle.case_model.proofs.Merged.{merge-valid, moved-in, merge-holds}
+use Rattle.case_model.proofs.Unlike.{alike-turned}
+use Rattle.case_model.proofs.Rewritten.{rewrite-holds, rewrite-valid}
+
+-- "A state holds if it is in judging's answer on the set of all states"
+unfoldable pub holds : Case → ℕ → Bool
+holds c s = has (verdict c (allStates c) .set) s
+
+-- the state g s of the last file stands for the state s of the first
+pub record Stands (first last : List ℕ) (g : ℕ → ℕ) : Type 0 where
+  pub accepted : refusals last ≡ sound
+  pub within : (s : ℕ) → s < length (read first .labels) → g s < length (read last .labels)
+  pub same : (s : ℕ) → s < length (read first .labels) → holds (read first) s ≡ holds (read last) (g s)
+
+-- a valid case is written as such a file
+written-stands : (f : List ℕ) (c : Case) (g : ℕ → ℕ) → Valid c
+    → ((s : ℕ) → s < length (read f .labels) → g s < length (c .labels))
+    → ((s : ℕ) → s < length (read f .labels) → holds (read f) s ≡ holds c (g s)) → Stands f (write c) g
+written-stands f c g valid within same = record {
+  accepted = valid-accepted c valid;
+  within = subst (λ (d : Case). (s : ℕ) → s < length (read f .labels) → g s < length (d .labels)) (sym (read-write c)) within;
+  same = subst (λ (d : Case). (s : ℕ) → s < length (read f .labels) → holds (read f) s ≡ holds d (g s)) (sym (read-write c)) same;
+}
+
+-- an answer says that nothing was found, and what was made
+answered : {A : Type 0} (x : Found) (a v : A) → replied x a ≡ answers v → (x ≡ sound) × (a ≡ v)
+answered sound a v e = (refl, cc)
+answered (refused k p) a v e = (cc, cc)
+
+-- judging answers the verdict
+judged : (f : List ℕ) (x words : ℕ) (v : Verdict) → judging f x words ≡ answers v → verdict (read f) x ≡ v
+unfolding judging
+judged f x words v e = answered (refusals f orElse row8 x (2 ^ length (read f .labels)) orElse row9 (read f) words) (verdict (read f) x) v e .1
+
+-- from a chain of rows that found nothing to each part of each test
+ruleset rows = (left-sound, right-sound, unless-sound, and-l, and-r)
+
+module _ (f : List ℕ) (ok : refusals f ≡ sound) where
+  abbrev c : Case
+  c = read f
+
+  valid : Valid c
+  valid = accepted-valid f ok
+
+  -- ---- an accepted merge
+  -- of k, the lower, and r
+  merge-stands : (k r : ℕ) → k < r → r < length (c .labels) → T (alike (table c) k r) → Stands f (write (merge c k r)) (moved k r)
+  unfolding holds verdict
+  merge-stands k r kr rn a =
+      written-stands f (merge c k r) (moved k r) (merge-valid valid k r kr rn)
+      (moved-in valid k r kr rn) (merge-holds valid k r kr rn a)
+
+  -- of s and t, in either order
+  merging-stands : (s t room : ℕ) (new : List ℕ) → merging f s t room ≡ answers new → Stands f new (moved (min s t) (max s t))
+  unfolding merging
+  merging-stands s t room new e =
+      let n : ℕ = length (c .labels) in
+      let made : List ℕ = write (merge c (min s t) (max s t)) in
+      let (x, q) = answered (refusals f orElse row8 s n orElse row8 t n orElse row10 c s t orElse row13 made room) made new e in
+      let i : s < length (c .labels) = ltb-true _ _ (search rows depth 10) in
+      let j : t < length (c .labels) = ltb-true _ _ (search rows depth 10) in
+      let n : s ≡ t → ⊥ = eqb-false s t (not-true (eqb s t) (search rows depth 10)) in
+      let a : alike (table c) s t ≡ true = search rows depth 10 in
+      subst (λ z. Stands f z (moved (min s t) (max s t))) q (go i j n a)
+    where
+      go : s < length (c .labels) → t < length (c .labels) → (s ≡ t → ⊥) → alike (table c) s t ≡ true
+          → Stands f (write (merge c (min s t) (max s t))) (moved (min s t) (max s t))
+      go i j n a = elim (decLt s t) [
+        | yes h ↦
+            let lo : min s t ≡ s = omega arith in
+            let hi : max s t ≡ t = omega arith in
+            rw (lo, hi) (merge-stands s t h j (rw a tt))
+        | no h ↦ elim (decLt t s) [
+          | yes l ↦
+              let lo : min s t ≡ t = omega arith in
+              let hi : max s t ≡ s = omega arith in
+              rw (lo, hi) (merge-stands t s l i (rw (← alike-turned valid s t i j, a) tt))
+          | no l ↦ absurd (n (omega arith))
+        ]
+      ]
+
+  -- ---- an accepted rewrite
+  rewrite-stands : (law j : ℕ) {l : List Triple} {g : ℕ → ℕ} → change (c .nodes) law j ≡ swap l g → length (rewrite c j (swap l g) .nodes) ≤ mostNodes
+      → Stands f (write (rewrite c j (swap l g))) (λ s. s)
+  unfolding holds verdict rewrite
+  rewrite-stands law j {l} {g} is few =
+      written-stands f (rewrite c j (swap l g)) (λ s. s) (rewrite-valid valid law j is few) (λ s i. i)
+      (λ s i. ap (λ x. has x s) (rewrite-holds valid law j is (allStates c) (setOf-lt (length (c .labels)) _)))
+
+  -- what was answered was there
+  rewriting-stands : (law j room : ℕ) (new : List ℕ) → rewriting f law j room ≡ answers new → Stands f new (λ s. s)
+  unfolding rewriting
+  rewriting-stands law j room new = go (change (c .nodes) law j) refl
+    where
+      go : (e : Change) → change (c .nodes) law j ≡ e
+          → replied (refusals f orElse unless (isThere e) 11 0 orElse unless (leb (length (rewrite c j e .nodes)) mostNodes) 12 0 orElse row13 (write (rewrite c j e)) room)
+          (write (rewrite c j e)) ≡ answers new
+          → Stands f new (λ s. s)
+      go nothing is e =
+          let r : refuses 11 0 ≡ answers new = rw ok at e in
+          let z : _≡_ {A = ℕ} 0 1 = cc in
+          absurd (omega arith)
+      go (swap l g) is e =
+          let d : Case = rewrite c j (swap l g) in
+          let (x, q) = answered (refusals f orElse sound orElse unless (leb (length (d .nodes)) mostNodes) 12 0 orElse row13 (write d) room) (write d) new e in
+          let few : length (d .nodes) ≤ mostNodes = leb-true _ _ (search rows depth 10) in
+          subst (λ z. Stands f z (λ s. s)) q (rewrite-stands law j is few)
+
+  -- ---- an edit
+  edit-stands : (e : Edit) (new : List ℕ) → reply f e ≡ answers new → Stands f new (restood e)
+  edit-stands (merges s t room) = merging-stands s t room
+  edit-stands (rewrites law j room) = rewriting-stands law j room
+
+-- ---- the book
+turn-stands : (first : List ℕ) (b : Book) (e : Edit) → Stands first (b .file) (b .standing) → Stands first (turn b e .file) (turn b e .standing)
+turn-stands first b e S = go (reply (b .file) e) refl
+  where
+    go : (r : Reply (List ℕ)) → reply (b .file) e ≡ r → Stands first (entered b e r .file) (entered b e r .standing)
+    go (refuses k p) q = S
+    go (answers new) q =
+        let N : Stands (b .file) new (restood e) = edit-stands (b .file) (S .accepted) e new q in
+        record {
+          accepted = N .accepted;
+          within = λ s i. N .within (b .standing s) (S .within s i);
+          same = λ s i. S .same s i ∙ N .same (b .standing s) (S .within s i);
+        }
+
+-- any list of edits, from any book and from the first one
+edits-stand : (first : List ℕ) (b : Book) (l : List Edit) → Stands first (b .file) (b .standing) → Stands first (book b l .file) (book b l .standing)
+unfolding book
+edits-stand first b [] S = S
+edits-stand first b (e ∷ l) S = edits-stand first (turn b e) l (turn-stands first b e S)
+
+pub book-stands : (first : List ℕ) → refusals first ≡ sound → (l : List Edit) → Stands first (book (begun first) l .file) (book (begun first) l .standing)
+book-stands first ok l = edits-stand first (begun first) l (record { accepted = ok; within = λ s i. i; same = λ s i. refl })
+
+-- over judging itself
+pub stands-judged : {first last : List ℕ} {g : ℕ → ℕ} → Stands first last g → (words words′ : ℕ) (v v′ : Verdict)
+    → judging first (allStates (read first)) words ≡ answers v
+    → judging last (allStates (read last)) words′ ≡ answers v′
+    → (s : ℕ) → s < length (read first .labels) → has (v .set) s ≡ has (v′ .set) (g s)
+unfolding holds
+stands-judged {first} {last} S words words′ v v′ e e′ s i =
+    rw (← judged first (allStates (read first)) words v e, ← judged last (allStates (read last)) words′ v′ e′) (S .same s i)

@@ -1,0 +1,58 @@
+-- The examples of the table of refusals, rows 10 to 13, and small merges and rewrites, computed from the definitions.
+-- By computation: a slip in a row, in a law or in the renumbering makes one of these equations false.
+use Prim.Native.Nat.{ℕ}
+use mathlib.Core.List.{List, [], _∷_, _++_}
+use mathlib.Core.Path.{_≡_, refl}
+use lib.ListN.{replicate, set}
+use Rattle.flc.specs.Sets.{both, either, implies, forAll, forSome, first, has}
+use Rattle.flc.specs.Functions.{forAllFun, forSomeFun}
+use Rattle.flc.specs.Formula.{free}
+use Rattle.flc.specs.Nodes.{lower, formulaAt}
+use Rattle.flc.specs.Bisimulation.{met, bisimulation, alike}
+use Rattle.case_model.specs.Bytes.{listOf, chained, pairsHold, section, packed}
+use Rattle.case_model.specs.Case.{Triple, write, listed, table, kinds, nodeOf, nodeAt, rule}
+use Rattle.case_model.specs.Rows.{lowest, rootClosed, refusals}
+use Rattle.case_model.specs.Replies.{answers, refuses}
+use Rattle.case_model.specs.Merging.{moved, movedSteps, inOrder, merge, merging}
+use Rattle.case_model.specs.Rewriting.{change, rewrite, rewriting}
+
+-- the rule of case F
+abbrev rule-F : List Triple
+rule-F =
+    (4, 0, 0) ∷ (4, 1, 0) ∷ (10, 0, 1) ∷ (10, 2, 0) ∷ (12, 1, 3) ∷ (6, 0, 0) ∷ (10, 5, 4) ∷ (6, 1, 0) ∷ (8, 7, 6) ∷ (11, 0, 8) ∷ []
+
+-- the file of a case
+abbrev caseOf : List ℕ → List Triple → List Triple → ℕ → List ℕ
+caseOf l s n r = write (record { labels = l; steps = s; nodes = n; root = r })
+
+-- case F
+abbrev F : List ℕ
+F = caseOf (0 ∷ 0 ∷ []) ((0, 0, 1) ∷ (1, 1, 1) ∷ []) rule-F 9
+
+-- one state without steps, and a rule
+abbrev of : List Triple → ℕ → List ℕ
+of n r = caseOf (0 ∷ []) [] n r
+
+-- rows 11 to 13, and laws 9, 1, 4 and 6 where they are there
+rewrites :
+    (rewriting F 1 9 51 ≡ refuses 11 0)
+    × (rewriting F 0 8 51 ≡ refuses 11 0)
+    × (rewriting (of (replicate 61 (5, 0, 0) ++ ((10, 0, 0) ∷ (10, 61, 0) ∷ (5, 0, 0) ∷ [])) 62) 4 62 6365 ≡ refuses 12 0)
+    × (rewriting F 9 8 50 ≡ refuses 13 0)
+    × (rewriting F 9 8 51 ≡ answers (caseOf (0 ∷ 0 ∷ []) ((0, 0, 1) ∷ (1, 1, 1) ∷ []) (set rule-F 8 (8, 6, 7)) 9))
+    × (rewriting (of ((5, 0, 0) ∷ (6, 0, 0) ∷ (10, 0, 1) ∷ []) 2) 1 2 99 ≡ answers (of ((5, 0, 0) ∷ (6, 0, 0) ∷ (10, 0, 1) ∷ []) 1))
+    × (rewriting (of ((6, 0, 0) ∷ (6, 1, 0) ∷ (10, 0, 1) ∷ (10, 2, 0) ∷ (8, 3, 2) ∷ []) 4) 4 3 99
+    ≡ answers (of ((6, 0, 0) ∷ (6, 1, 0) ∷ (10, 0, 1) ∷ (10, 1, 0) ∷ (10, 0, 3) ∷ (8, 4, 2) ∷ []) 5))
+    × (rewriting (of ((6, 0, 0) ∷ (6, 1, 0) ∷ (8, 0, 1) ∷ (10, 2, 0) ∷ []) 3) 6 3 99
+    ≡ answers (of ((6, 0, 0) ∷ (6, 1, 0) ∷ (8, 0, 1) ∷ (10, 0, 0) ∷ (10, 1, 0) ∷ (8, 3, 4) ∷ []) 5))
+unfolding rewriting change rewrite write packed refusals pairsHold chained section listOf lowest first forAll forSome both either rootClosed rule formulaAt lower nodeAt nodeOf kinds free
+rewrites = (refl, refl, refl, refl, refl, refl, refl, refl)
+
+-- rows 8 and 10, and two states with the same loop
+merges :
+    (merging F 0 2 51 ≡ refuses 8 0)
+    × (merging F 0 1 51 ≡ refuses 10 0)
+    × (merging F 1 1 51 ≡ refuses 10 0)
+    × (merging (caseOf (5 ∷ 5 ∷ []) ((0, 3, 1) ∷ (1, 3, 1) ∷ []) ((5, 0, 0) ∷ []) 0) 1 0 99 ≡ answers (caseOf (5 ∷ []) ((0, 3, 0) ∷ []) ((5, 0, 0) ∷ []) 0))
+unfolding merging merge moved movedSteps inOrder alike forSomeFun forAllFun bisimulation met implies has table listed write packed refusals pairsHold chained section listOf lowest first forAll forSome both either rootClosed rule formulaAt lower nodeAt nodeOf kinds free
+merges = (refl, refl, refl, refl)

@@ -1,0 +1,59 @@
+-- Rewriting by a law keeps what every node means, and a valid case valid.
+-- The same meaning is a lawful relation, and so is having no new free variable: the root stays closed.
+use Prim.Native.Nat.{ℕ, _^_, _≤_, _<_}
+use mathlib.Core.Bool.{true}
+use mathlib.Core.List.{List}
+use mathlib.Core.Path.{_≡_, subst}
+use lib.Dec.{not-T}
+use lib.ListN.{length}
+use Rattle.flc.specs.Formula.{mean, none, free}
+use Rattle.flc.specs.Nodes.{formulaAt}
+use Rattle.flc.proofs.Tests.{forAll-mk}
+use Rattle.flc.proofs.Meanings.{none-good}
+use Rattle.flc.proofs.Laws.{Same}
+use Rattle.case_model.specs.Case.{Triple, Case, table, nodeAt, rule}
+use Rattle.case_model.specs.Rows.{mostNodes, variables, rootClosed}
+use Rattle.case_model.specs.Rewriting.{swap, change, rewrite}
+use Rattle.case_model.proofs.Tests.{is-true}
+use Rattle.case_model.proofs.Nodes.{closed-all}
+use Rattle.case_model.proofs.Valid.{Valid}
+use Rattle.case_model.proofs.Lawful.{same-lawful, Frees, frees-lawful}
+use Rattle.case_model.proofs.Swapped.{Fit, became-lt, new-kinds, new-binders, kept}
+use Rattle.case_model.proofs.NineLaws.{Brings, the-fit, brings}
+
+module _ {c : Case} (valid : Valid c) (law j : ℕ) {l : List Triple} {g : ℕ → ℕ} (is : change (c .nodes) law j ≡ swap l g) where
+  -- what the law brings
+  fit : Fit c j l g
+  fit = the-fit (subst (Brings c j) is (brings valid j law))
+
+  -- every node means what it meant
+  pub rewrite-kept : (i : ℕ) → i < length (c .nodes) → Same (table c) (formulaAt (nodeAt c) i) (formulaAt (nodeAt (rewrite c j (swap l g))) (g i))
+  rewrite-kept = kept valid fit (same-lawful (table c))
+
+  -- so the root's function is the same at every set
+  pub rewrite-holds : (x : ℕ) → x < 2 ^ length (c .labels)
+      → mean (table c) (rule c) none x ≡ mean (table (rewrite c j (swap l g))) (rule (rewrite c j (swap l g))) none x
+  unfolding table rule rewrite
+  rewrite-holds = rewrite-kept (c .root) (valid .root) none (none-good (length (c .labels)))
+
+  -- the root has no new free variable, so none
+  root-frees : Frees (rule c) (rule (rewrite c j (swap l g)))
+  unfolding rule rewrite
+  root-frees = kept valid fit frees-lawful (c .root) (valid .root)
+
+  root-closed : rootClosed (rewrite c j (swap l g)) ≡ true
+  unfolding rootClosed
+  root-closed = is-true _ (forAll-mk variables _ (λ v h. not-T (free v (rule (rewrite c j (swap l g)))) (λ t. closed-all valid v (root-frees v t))))
+
+  -- "rewriting would pass 64 nodes" aside, the new case is valid
+  pub rewrite-valid : length (rewrite c j (swap l g) .nodes) ≤ mostNodes → Valid (rewrite c j (swap l g))
+  rewrite-valid few = record {
+    some = unfold rewrite in valid .some;
+    few = unfold rewrite in valid .few;
+    steps = unfold rewrite in valid .steps;
+    most = few;
+    root = unfold rewrite in became-lt valid fit (c .root) (valid .root);
+    kinds = new-kinds valid fit;
+    binders = new-binders valid fit;
+    closed = root-closed;
+  }

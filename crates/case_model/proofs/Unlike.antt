@@ -1,0 +1,81 @@
+-- Merging's reply: the same for the two states in either order, and "unlike" exactly where no bisimulation relates them.
+-- Being alike is symmetric, and it is being related by some bisimulation.
+use Prim.Native.Nat.{ℕ, _<_, min, max}
+use mathlib.Core.Bool.{Bool, true, false, _&&_, not}
+use mathlib.Core.List.{List}
+use mathlib.Core.Logic.{_↔_}
+use mathlib.Core.Path.{_≡_, refl, sym, ap}
+use native.Mathlib.Decide.{ℕ-discrete}
+use native.Mathlib.Omega.{arith}
+use borrow.Author.Tests.{ltb-true, lt-ltb, eq-eqb, ne-eqb}
+use lib.Dec.{T, eqb, leb, ltb}
+use lib.ListN.{length}
+use Rattle.flc.specs.Formula.{Table}
+use Rattle.flc.specs.Bisimulation.{bisimulation, alike}
+use Rattle.flc.proofs.Tests.{bool-ext}
+use Rattle.flc.proofs.Alikeness.{bisimulation-use, bisimulation-mk, alike-use, alike-mk, alike-sym}
+use Rattle.case_model.specs.Case.{Case, read, write, table}
+use Rattle.case_model.specs.Rows.{Found, sound, refused, _orElse_, unless, refusals}
+use Rattle.case_model.specs.Replies.{refuses, replied}
+use Rattle.case_model.specs.Merging.{merge, row13, merging}
+use Rattle.case_model.proofs.Valid.{Valid, accepted-valid}
+use Rattle.case_model.proofs.Merged.{valid-acts}
+
+-- ---- either order
+-- equality and being alike, turned round
+eqb-turned : (s t : ℕ) → eqb s t ≡ eqb t s
+eqb-turned s t = elim (ℕ-discrete s t) [ yes e ↦ rw (eq-eqb s t e, eq-eqb t s (sym e)) | no n ↦ rw (ne-eqb s t n, ne-eqb t s (λ e. n (sym e))) ]
+
+pub alike-turned : {c : Case} → Valid c → (s t : ℕ) → s < length (c .labels) → t < length (c .labels) → alike (table c) s t ≡ alike (table c) t s
+unfolding table
+alike-turned {c} valid s t i j =
+    bool-ext _ _ (alike-sym (table c) (valid-acts valid) s t i j) (alike-sym (table c) (valid-acts valid) t s j i)
+
+-- rows 8 and 10 with the states turned round
+turned : (x : Found) (a b d e : Bool) (y : Found) → (x ≡ sound → a ≡ true → b ≡ true → d ≡ e)
+    → x orElse unless a 8 0 orElse unless b 8 0 orElse unless d 10 0 orElse y ≡ x orElse unless b 8 0 orElse unless a 8 0 orElse unless e 10 0 orElse y
+turned (refused k p) a b d e y h = refl
+turned sound true true d e y h = rw (h refl refl refl)
+turned sound true false d e y h = refl
+turned sound false true d e y h = refl
+turned sound false false d e y h = refl
+
+-- "given in either order"
+pub merge-either : (f : List ℕ) (s t room : ℕ) → merging f s t room ≡ merging f t s room
+unfolding merging
+merge-either f s t room =
+    let n : ℕ = length (read f .labels) in
+    let new : List ℕ = write (merge (read f) (min t s) (max t s)) in
+    let p : min s t ≡ min t s = omega arith in
+    let q : max s t ≡ max t s = omega arith in
+    let d : ℕ → ℕ → Bool = λ s t. not (eqb s t) && alike (table (read f)) s t in
+    rw (p, q) (ap (λ z. replied z new) (turned (refusals f) (ltb s n) (ltb t n) (d s t) (d t s) (row13 new room) (λ ok i j.
+    rw (eqb-turned s t, alike-turned (accepted-valid f ok) s t (ltb-true s n i) (ltb-true t n j)))))
+
+-- ---- unlike
+module _ (f : List ℕ) (ok : refusals f ≡ sound) (s t : ℕ) (i : s < length (read f .labels)) (j : t < length (read f .labels)) (ne : s ≡ t → ⊥) where
+  abbrev L : Table
+  L = table (read f)
+
+  -- alike states are related by some bisimulation, and others by none
+  related : T (alike L s t) → ((R : ℕ → ℕ → Bool) → T (bisimulation L R) → T (R s t) → ⊥) → ⊥
+  related a h = let (R, B, r) = alike-use L (valid-acts (accepted-valid f ok)) s t a in h R (bisimulation-mk L R B) r
+
+  unrelated : (T (alike L s t) → ⊥) → (R : ℕ → ℕ → Bool) → T (bisimulation L R) → T (R s t) → ⊥
+  unfolding table
+  unrelated n R B r = n (alike-mk L R (bisimulation-use L (valid-acts (accepted-valid f ok)) R B) s t i j r)
+
+  -- "Unlike is refusal 10 of two different states."
+  pub unlike-exactly : (room : ℕ)
+      → (merging f s t room ≡ refuses 10 0) ↔ ((R : ℕ → ℕ → Bool) → T (bisimulation (table (read f)) R) → T (R s t) → ⊥)
+  unfolding merging
+  unlike-exactly room =
+      let new : List ℕ = write (merge (read f) (min s t) (max s t)) in
+      rw (ok, lt-ltb s (length (read f .labels)) i, lt-ltb t (length (read f .labels)) j, ne-eqb s t ne)
+      (go (alike L s t) (leb (length new) room) new unrelated related)
+    where
+      go : (a b : Bool) {N : Type 0} (new : List ℕ) → ((T a → ⊥) → N) → (T a → N → ⊥)
+          → (replied (unless a 10 0 orElse unless b 13 0) new ≡ refuses 10 0) ↔ N
+      go true true new f g = (λ e. let z : _≡_ {A = ℕ} 0 1 = cc in absurd (omega arith), λ n. absurd (g tt n))
+      go true false new f g = (λ e. let z : _≡_ {A = ℕ} 0 1 = cc in absurd (omega arith), λ n. absurd (g tt n))
+      go false b new f g = (λ e. f (λ u. u), λ n. refl)

@@ -1,0 +1,71 @@
+-- The nine laws, and rewriting. Document 01, "The nine laws", with rows 11 to 13.
+use Prim.Native.Nat.{ℕ, suc, _+_, _-_}
+use mathlib.Core.Bool.{Bool, true, false, _&&_, cond}
+use mathlib.Core.List.{List, [], _∷_, _++_, map}
+use lib.Dec.{eqb, leb, ltb}
+use lib.ListN.{length, getD, take, drop}
+use Rattle.case_model.specs.Case.{Triple, Case, read, write, at}
+use Rattle.case_model.specs.Rows.{_orElse_, unless, mostNodes, refusals}
+use Rattle.case_model.specs.Replies.{Reply, replied}
+use Rattle.case_model.specs.Merging.{row13}
+
+-- what a law does at node j: nothing, or node j gives way to some nodes and the nodes that others name are renamed
+pub data Change : Type 0 where
+  nothing : Change
+  swap : List Triple → (ℕ → ℕ) → Change
+
+-- "every mention of j by another node, or as the root, becomes the remaining node"
+abbrev pub redirected : ℕ → ℕ → ℕ → ℕ
+redirected j k i = cond (eqb i j) k i
+
+-- "numbers from j up move", by d
+abbrev pub shifted : ℕ → ℕ → ℕ → ℕ
+shifted j d i = cond (ltb i j) i (i + d)
+
+-- laws 1 to 9, in order, at node j = (k, a, b), which names x first and y second
+abbrev pub lawsAt : ℕ → Triple → Triple → Triple → List Change
+lawsAt j (k, a, b) x y =
+    let isChop : Bool = eqb k 10 in
+    let isPair : Bool = leb 8 k && leb k 9 in
+    let redirect : ℕ → Change = λ i. swap ((k, a, b) ∷ []) (redirected j i) in
+    let insert : List Triple → Change = λ l. swap l (shifted j (length l - 1)) in
+    let given : Bool → Change → Change = λ t e. cond t e nothing in
+    given (isChop && eqb (x .0) 5) (redirect b)
+    ∷ given (isChop && eqb (y .0) 5) (redirect a)
+    ∷ given (isChop && leb (x .0) 3) (redirect a)
+    ∷ given (isChop && eqb (x .0) 10) (insert ((10, x .2, b) ∷ (10, x .1, j) ∷ []))
+    ∷ given (isChop && eqb (y .0) 10) (insert ((10, a, y .1) ∷ (10, j, y .2) ∷ []))
+    ∷ given (isChop && eqb (x .0) 8) (insert ((10, x .1, b) ∷ (10, x .2, b) ∷ (8, j, suc j) ∷ []))
+    ∷ given (isChop && eqb (x .0) 9) (insert ((10, x .1, b) ∷ (10, x .2, b) ∷ (9, j, suc j) ∷ []))
+    ∷ given (isPair && eqb a b) (redirect a)
+    ∷ given isPair (insert ((k, b, a) ∷ []))
+    ∷ []
+
+-- law 0, laws above 9 and nodes beyond the rule change nothing: a node past the end reads as tt
+unfoldable pub change : List Triple → ℕ → ℕ → Change
+change N law j = getD (nothing ∷ lawsAt j (at N j) (at N (at N j .1)) (at N (at N j .2))) law nothing
+
+abbrev pub isThere : Change → Bool
+isThere nothing = false
+isThere (swap l g) = true
+
+-- a node with the nodes that it names renamed
+abbrev pub renamed : (ℕ → ℕ) → Triple → Triple
+renamed g (k, a, b) = (k, cond (leb 8 k && leb k 10) (g a) a, cond (leb 8 k) (g b) b)
+
+unfoldable pub rewrite : Case → ℕ → Change → Case
+rewrite c j nothing = c
+rewrite c j (swap l g) = record {
+  labels = c .labels;
+  steps = c .steps;
+  nodes = map (renamed g) (take j (c .nodes)) ++ (l ++ map (renamed g) (drop (suc j) (c .nodes)));
+  root = g (c .root);
+}
+
+unfoldable pub rewriting : List ℕ → ℕ → ℕ → ℕ → Reply (List ℕ)
+rewriting f law j room =
+    let e : Change = change (read f .nodes) law j in
+    let new : Case = rewrite (read f) j e in
+    replied
+    (refusals f orElse unless (isThere e) 11 0 orElse unless (leb (length (new .nodes)) mostNodes) 12 0 orElse row13 (write new) room)
+    (write new)

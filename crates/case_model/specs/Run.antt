@@ -1,0 +1,60 @@
+-- Calls of merging and rewriting in a row, as their caller sees them. Document 01, "Edits in a row".
+-- What the entries promise of a call is stated here once, over the file that the call gets; the plain book is in Book.antt.
+use Prim.Native.Nat.{ℕ, _<_}
+use mathlib.Core.Bool.{true}
+use mathlib.Core.List.{List, [], _∷_, map}
+use mathlib.Core.Path.{_≡_}
+use lib.ListN.{length, take}
+use Rattle.flc.specs.Sets.{has, setOf}
+use Rattle.case_model.specs.Case.{Case, read}
+use Rattle.case_model.specs.Rows.{sound, refusals}
+use Rattle.case_model.specs.Replies.{Reply, answers, refuses}
+use Rattle.case_model.specs.Judging.{Verdict, judging}
+use Rattle.case_model.specs.Merging.{counted, written}
+use Rattle.case_model.specs.Book.{Edit, Book, begun, reply, turn, book}
+
+-- a call: the edit that it asks for, given its output area's length; that area before and after it; and its reply
+pub record Call : Type 0 where
+  pub asked : ℕ → Edit
+  pub before : List ℕ
+  pub after : List ℕ
+  pub told : Reply ℕ
+
+abbrev pub edit : Call → Edit
+edit c = c .asked (length (c .before))
+
+-- what the called entry promises of its reply and of the output area, if it gets the file f
+pub record Promised (f : List ℕ) (c : Call) : Type 0 where
+  pub says : c .told ≡ counted (reply f (edit c))
+  pub leaves : c .after ≡ written (reply f (edit c)) (c .before)
+
+-- the file that the next call gets: "the bytes which the last accepted edit wrote", else the one that this call got
+abbrev pub handed : List ℕ → Reply ℕ → List ℕ → List ℕ
+handed f (answers count) out = take count out
+handed f (refuses k p) out = f
+
+-- the calls that begin with the file f and leave the file last, each of which keeps its promise
+pub data Calls : List ℕ → List Call → List ℕ → Type 0 where
+  ended : {f : List ℕ} → Calls f [] f
+  called : {f last : List ℕ} {c : Call} {l : List Call} → Promised f c → Calls (handed f (c .told) (c .after)) l last → Calls f (c ∷ l) last
+
+-- the replies of the plain book: "the reply is the new file's count of bytes"
+unfoldable pub replies : Book → List Edit → List (Reply ℕ)
+replies b [] = []
+replies b (e ∷ l) = counted (reply (b .file) e) ∷ replies (turn b e) l
+
+-- "judging's answer on the set of all states"
+abbrev pub allStates : Case → ℕ
+allStates c = setOf (length (c .labels)) (λ s. true)
+
+-- demand 3, "one claim about the whole list": file and replies are the plain book's, the last file is accepted, and a state of the first case holds
+-- exactly if the state standing for it holds in the last, where judging has work area enough at both ends
+pub record Kept (first : List ℕ) (l : List Call) (last : List ℕ) : Type 0 where
+  pub file : book (begun first) (map edit l) .file ≡ last
+  pub told : replies (begun first) (map edit l) ≡ map (λ (c : Call). c .told) l
+  pub accepted : refusals last ≡ sound
+  pub within : (s : ℕ) → s < length (read first .labels) → book (begun first) (map edit l) .standing s < length (read last .labels)
+  pub verdicts : (words words′ : ℕ) (v v′ : Verdict)
+      → judging first (allStates (read first)) words ≡ answers v
+      → judging last (allStates (read last)) words′ ≡ answers v′
+      → (s : ℕ) → s < length (read first .labels) → has (v .set) s ≡ has (v′ .set) (book (begun first) (map edit l) .standing s)
