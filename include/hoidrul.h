@@ -1,6 +1,7 @@
 /* Checking case files: one state table and one rule in Fixed Point Logic with Chop.
  *
  * Every function takes any bytes and any numbers. `file` points to `len` bytes, which are only read.
+ * A lent area does not overlap the file. A refusal leaves it unchanged.
  *
  * A refusal has bit 63 set, its number (1 to 13) in bits 32 to 62 and its place in bits 0 to 31.
  * The place is the triple in refusal 3, the node in 5 and 6, and else 0. No answer has bit 63 set.
@@ -22,6 +23,11 @@ uint64_t hoidrul_vet(const uint8_t *file, size_t len, size_t section);
 /* Opening. Answer: offset * 2^32 + length, both in bytes, of the section within `file`.
  * Answers 0 where hoidrul_vet refuses; a section's offset is never 0, so 0 is no section. */
 uint64_t hoidrul_open(const uint8_t *file, size_t len, size_t section);
+
+/* Judging on a set of states, bit i for state i. `work` points to `words` 16-bit words, whatever they hold;
+ * 2 * m * 2^n of them are enough, and all of them hold zero after an answer.
+ * Answer: set + rounds * 2^16. Refusals: 1 to 7, 8 if set >= 2^n, 9 if the work area is too short. */
+uint64_t hoidrul_judge(const uint8_t *file, size_t len, uint16_t set, uint16_t *work, size_t words);
 
 #ifdef __cplusplus
 }

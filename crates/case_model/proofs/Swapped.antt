@@ -29,7 +29,7 @@ module _ (c : Case) (j : ℕ) (l : List Triple) (g : ℕ → ℕ) (within : j < 
   front : length (map (renamed g) (take j (c .nodes))) ≡ j
   front = length-map (take j (c .nodes)) (renamed g) ∙ length-take-le j (c .nodes) (omega arith)
 
-  length-new : suc (length (rewrite c j (swap l g) .nodes)) ≡ length (c .nodes) + length l
+  pub length-new : suc (length (rewrite c j (swap l g) .nodes)) ≡ length (c .nodes) + length l
   unfolding rewrite
   length-new = simp (length-append, front, length-map, length-drop) (omega arith)
 
@@ -47,7 +47,7 @@ module _ (c : Case) (j : ℕ) (l : List Triple) (g : ℕ → ℕ) (within : j < 
       let b : List Triple = l ++ map (renamed g) (drop (suc j) (c .nodes)) in
       subst (λ z. at (a ++ b) (z + i) ≡ at b i) front (getD-append-add a b i (0, 0, 0))
 
-  new-mid : (i : ℕ) → i < length l → at (rewrite c j (swap l g) .nodes) (j + i) ≡ at l i
+  pub new-mid : (i : ℕ) → i < length l → at (rewrite c j (swap l g) .nodes) (j + i) ≡ at l i
   new-mid i h = rest i ∙ List·getD-append l _ (0, 0, 0) i h
 
   new-high : (i : ℕ) → j < i → at (rewrite c j (swap l g) .nodes) (i + length l - 1) ≡ renamed g (at (c .nodes) i)

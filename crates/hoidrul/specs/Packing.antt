@@ -1,5 +1,6 @@
 -- Replies as one number, for callers in other languages; include/hoidrul.h says the same in C.
-use Prim.Native.Nat.{ℕ, _+_, _*_, _^_}
+use Prim.Native.Nat.{ℕ, _+_, _*_, _^_, _≤_, _<_}
+use Rattle.case_model.specs.Judging.{Verdict}
 use Rattle.case_model.specs.Replies.{Reply, answers, refuses, Counts}
 
 -- bit 63, the number from bit 32 on, and the place
@@ -17,3 +18,22 @@ countsWord c = c .states + c .nodes * 2 ^ 16
 -- a part's offset and length
 abbrev pub spanWord : ℕ → ℕ → ℕ
 spanWord offset size = offset * 2 ^ 32 + size
+
+-- the set, and the rounds from bit 16 on
+abbrev pub verdictWord : Verdict → ℕ
+verdictWord v = v .set + v .rounds * 2 ^ 16
+
+-- a count of bytes
+abbrev pub itself : ℕ → ℕ
+itself n = n
+
+-- ---- what the private functions ask for: the parts of a reply do not overlap in its word
+abbrev pub Fits : {A : Type 0} → (A → Type 0) → Reply A → Type 0
+Fits P (answers a) = P a
+Fits P (refuses k p) = p < 2 ^ 32
+
+abbrev pub Brief : Verdict → Type 0
+Brief v = v .rounds ≤ 1048576
+
+abbrev pub Any : ℕ → Type 0
+Any n = Unit {0}

@@ -3,10 +3,17 @@ ghost use mathlib.Core.Path.{_≡_};
 ghost use Prim.Native.Nat.{_+_, _*_, _^_, _<_};
 ghost use lib.ListN.{length};
 ghost use Rattle.case_model.specs.Replies.{vetting, opening, openedAt};
+ghost use Rattle.case_model.specs.Judging.{judging, cleared};
+ghost use Rattle.case_model.specs.Merging.{counted, written, classing, merging};
+ghost use Rattle.case_model.specs.Rewriting.{rewriting};
 ghost use Rattle.case_file.specs.Told.{number};
-ghost use Rattle.hoidrul.specs.Packing.{packed, countsWord, refusalWord, spanWord};
+ghost use Rattle.judge.specs.Told.{told as toldJudged};
+ghost use Rattle.bisim.specs.Told.{told as toldWritten};
+ghost use Rattle.hoidrul.specs.Packing.{packed, countsWord, refusalWord, spanWord, verdictWord, itself, Fits, Brief, Any};
+use bisim::Written;
 use case_file::Refusal;
 use case_file::Vetted;
+use judge::Judged;
 
 // A refusal has bit 63 set, its number from bit 32 on, and its place below that.
 fn refused(refusal: Refusal) -> u64
@@ -40,4 +47,56 @@ pub extern "C" fn hoidrul_open(file: &[u8], section: usize) -> u64
     let offset = case_file::section_offset(file, section);
     let size = case_file::section_size(file, section);
     (offset * 4294967296 + size) as u64
+}
+
+fn verdict_word(judged: Judged) -> u64
+    requires { ⌜ Fits Brief (toldJudged judged) ⌝ }
+    ensures { λ r. ⌜ r ≡ packed verdictWord (toldJudged judged) ⌝ }
+{
+    match judged {
+        Judged::Verdict(verdict) => verdict.set as u64 + verdict.rounds as u64 * 65536,
+        Judged::Refused(refusal) => refused(refusal),
+    }
+}
+
+fn count_word(written: Written) -> u64
+    requires { ⌜ Fits Any (toldWritten written) ⌝ }
+    ensures { λ r. ⌜ r ≡ packed itself (toldWritten written) ⌝ }
+{
+    match written {
+        Written::Bytes(count) => count as u64,
+        Written::Refused(refusal) => refused(refusal),
+    }
+}
+
+#[no_mangle]
+pub extern "C" fn hoidrul_judge(file: &[u8], set: u16, work: &mut [u16]) -> u64
+    ensures { λ r. ⌜ r ≡ packed verdictWord (judging (now (file .entry)) set (length (now (work .entry)))) ⌝ }
+    ensures { λ _. ⌜ now (work .exit) ≡ cleared (judging (now (file .entry)) set (length (now (work .entry)))) (now (work .entry)) ⌝ }
+{
+    verdict_word(judge::judge(file, set, work))
+}
+
+#[no_mangle]
+pub extern "C" fn hoidrul_classes(file: &[u8], out: &mut [u8]) -> u64
+    ensures { λ r. ⌜ r ≡ packed itself (counted (classing (now (file .entry)) (length (now (out .entry))))) ⌝ }
+    ensures { λ _. ⌜ now (out .exit) ≡ written (classing (now (file .entry)) (length (now (out .entry)))) (now (out .entry)) ⌝ }
+{
+    count_word(bisim::classes(file, out))
+}
+
+#[no_mangle]
+pub extern "C" fn hoidrul_merge(file: &[u8], s: usize, t: usize, out: &mut [u8]) -> u64
+    ensures { λ r. ⌜ r ≡ packed itself (counted (merging (now (file .entry)) s t (length (now (out .entry))))) ⌝ }
+    ensures { λ _. ⌜ now (out .exit) ≡ written (merging (now (file .entry)) s t (length (now (out .entry)))) (now (out .entry)) ⌝ }
+{
+    count_word(edits::merge(file, s, t, out))
+}
+
+#[no_mangle]
+pub extern "C" fn hoidrul_rewrite(file: &[u8], law: usize, node: usize, out: &mut [u8]) -> u64
+    ensures { λ r. ⌜ r ≡ packed itself (counted (rewriting (now (file .entry)) law node (length (now (out .entry))))) ⌝ }
+    ensures { λ _. ⌜ now (out .exit) ≡ written (rewriting (now (file .entry)) law node (length (now (out .entry)))) (now (out .entry)) ⌝ }
+{
+    count_word(edits::rewrite(file, law, node, out))
 }

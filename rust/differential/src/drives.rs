@@ -5,7 +5,7 @@ use plain::{Case, Triple};
 pub fn drives() -> Vec<(&'static str, Case)> {
     vec![
         ("f.case", f()),
-        ("two_wheels.case", two_wheels()),
+        ("two_wheels.case", wheels(3, 4)),
         ("example_4.case", example_4()),
         ("box.case", one_state(&[(7, 0, 0)])),
         ("diamond.case", one_state(&[(6, 0, 0)])),
@@ -34,11 +34,8 @@ pub fn f() -> Case {
     case(&[0, 0], &[(0, 0, 1), (1, 1, 1)], &nodes)
 }
 
-/// μZ.(⟨1⟩ and ⟨2⟩) or Z;⟨0⟩ over rings of three and four states.
-fn two_wheels() -> Case {
-    let from_0 = [(0, 1, 1), (0, 2, 4)];
-    let three = [(1, 0, 2), (2, 0, 3), (3, 0, 1)];
-    let four = [(4, 0, 5), (5, 0, 6), (6, 0, 7), (7, 0, 4)];
+/// μZ.(⟨1⟩ and ⟨2⟩) or Z;⟨0⟩ over two rings of action 0. State 0 steps to the first state of each.
+pub fn wheels(first: usize, second: usize) -> Case {
     let nodes = [
         (6, 1, 0),
         (6, 2, 0),
@@ -49,7 +46,15 @@ fn two_wheels() -> Case {
         (8, 2, 5),
         (11, 0, 6),
     ];
-    case(&[0; 8], &[&from_0[..], &three, &four].concat(), &nodes)
+    let mut steps = vec![(0, 1, 1), (0, 2, 1 + first as u8)];
+    steps.extend(ring(1, first));
+    steps.extend(ring(1 + first, second));
+    case(&vec![0; 1 + first + second], &steps, &nodes)
+}
+
+/// Steps of action 0 round so many states, from this one on.
+fn ring(start: usize, size: usize) -> impl Iterator<Item = Triple> {
+    (0..size).map(move |i| ((start + i) as u8, 0, (start + (i + 1) % size) as u8))
 }
 
 /// νZ.μY.(⟨a⟩;Z) and ([b];(Y or τ);⟨b⟩) with a = 0, b = 1, Z = 0, Y = 1.

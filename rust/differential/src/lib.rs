@@ -5,7 +5,10 @@
 
 pub mod damage;
 pub mod drives;
+pub mod formulas;
 pub mod generate;
+pub mod judging;
+pub mod measure;
 pub mod rng;
 pub mod strange;
 pub mod tally;

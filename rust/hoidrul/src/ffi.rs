@@ -3,6 +3,7 @@
 extern "C" {
     fn hoidrul_vet(file: *const u8, len: usize, section: usize) -> u64;
     fn hoidrul_open(file: *const u8, len: usize, section: usize) -> u64;
+    fn hoidrul_judge(file: *const u8, len: usize, set: u16, work: *mut u16, words: usize) -> u64;
 }
 
 pub fn vet(file: &[u8], section: usize) -> u64 {
@@ -14,4 +15,11 @@ pub fn vet(file: &[u8], section: usize) -> u64 {
 pub fn open(file: &[u8], section: usize) -> u64 {
     // SAFETY: as for `vet`. The reply is two numbers and keeps no pointer.
     unsafe { hoidrul_open(file.as_ptr(), file.len(), section) }
+}
+
+pub fn judge(file: &[u8], set: u16, work: &mut [u16]) -> u64 {
+    let (words, work) = (work.len(), work.as_mut_ptr());
+    // SAFETY: as for `vet`. It writes only the `words` words of the work area, which is borrowed
+    // mutably until it returns, so it overlaps the file nowhere; any word is a valid `u16`.
+    unsafe { hoidrul_judge(file.as_ptr(), file.len(), set, work, words) }
 }

@@ -10,6 +10,10 @@
 //! assert_eq!((counts.states, counts.nodes), (1, 1));
 //! assert_eq!(hoidrul::open(&file, 2), [5, 0, 0, 0]);
 //!
+//! let mut work = vec![0; hoidrul::work_area(&file)?];
+//! let verdict = hoidrul::judge(&file, 0b1, &mut work)?;
+//! assert_eq!((verdict.set, verdict.rounds), (0b1, 0));
+//!
 //! let refusal = hoidrul::vet(&file, 3).unwrap_err();
 //! assert_eq!((refusal.number, refusal.place), (8, 0));
 //! # Ok::<(), hoidrul::Refusal>(())
@@ -18,8 +22,10 @@
 
 #[allow(unsafe_code)]
 mod ffi;
+mod judging;
 mod refusal;
 
+pub use judging::{judge, work_area, Verdict};
 pub use refusal::Refusal;
 
 /// What vetting answers: the paper's n and m.

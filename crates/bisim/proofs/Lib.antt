@@ -1,0 +1,5 @@
+pub mod Sets
+pub mod Filling
+pub mod Drawing
+pub mod Refining
+pub mod Answering

@@ -1,0 +1,101 @@
+-- Sets as masks: one state more, the set of one state, sets that meet; a smaller set is a smaller number.
+-- By induction on the width, or digit by digit.
+use mathlib.Core.Path.{_≡_, refl, sym, ap, ap₂, _∙_, subst}
+use mathlib.Core.Bool.{Bool, true, false, _&&_, not, cond}
+use Prim.Native.Nat.{ℕ, zero, suc, _+_, _*_, _/_, _%_, _^_, _≤_, _<_, suc-le-suc}
+use native.Mathlib.Nat.{zero-div, div-eq-of-lt, lt-of-lt-of-le}
+use native.Mathlib.Numerals.{add-one}
+use native.Mathlib.Omega.{arith}
+use borrow.Author.Tests.{eq-eqb}
+use lib.Bits.{bitOr, bitAnd, and-le-l}
+use lib.Dec.{T, eqb, eqb→eq, eqb·zero-suc, eqb·suc-zero, eqb·suc-suc, T-not, not-T}
+use lib.Pow.{pow-pos, pow-mono, pow-lt}
+use Rattle.flc.specs.Sets.{both, either, forAll, forSome, has, bit, setOf}
+use Rattle.flc.proofs.Tests.{bool-ext, forSome-use, forSome-mk}
+use Rattle.flc.proofs.Masks.{has-zero, has-suc, has-setOf, setOf-lt, setOf-ext, set-ext, has-and, or-setOf}
+use Rattle.case_model.proofs.Tests.{is-false}
+
+-- ---- one state more
+twice : (b : Bool) (n : ℕ) → cond b (2 ^ suc n) 0 ≡ 2 * cond b (2 ^ n) 0
+twice true n = let e : 2 ^ suc n ≡ 2 * 2 ^ n = omega arith in e
+twice false n = refl
+
+lowest-place : (b : Bool) → bit b + 2 * 0 ≡ 0 + cond b 1 0
+lowest-place true = refl
+lowest-place false = refl
+
+pub setOf-more : (n : ℕ) (p : ℕ → Bool) → setOf (suc n) p ≡ setOf n p + cond (p n) (2 ^ n) 0
+unfolding setOf
+setOf-more zero p = lowest-place (p zero)
+setOf-more (suc n) p = omega (arith, setOf-more n (λ s. p (suc s)), twice (p (suc n)) n)
+
+pub setOf-none : (n : ℕ) → setOf n (λ s. false) ≡ 0
+unfolding setOf
+setOf-none zero = refl
+setOf-none (suc n) = omega (arith, setOf-none n)
+
+bit-rises : (a b : Bool) → (T a → T b) → bit a ≤ bit b
+bit-rises true true h = omega arith
+bit-rises true false h = absurd (h tt)
+bit-rises false true h = omega arith
+bit-rises false false h = omega arith
+
+-- fewer states, a smaller number
+pub setOf-le : (n : ℕ) (p q : ℕ → Bool) → ((s : ℕ) → s < n → T (p s) → T (q s)) → setOf n p ≤ setOf n q
+unfolding setOf
+setOf-le zero p q h = omega arith
+setOf-le (suc n) p q h =
+    omega (arith, bit-rises (p zero) (q zero) (h zero (omega arith)), setOf-le n (λ s. p (suc s)) (λ s. q (suc s)) (λ s k. h (suc s) (suc-le-suc k)))
+
+-- one turn of a loop that collects the states that pass
+pub set-more : (p : ℕ → Bool) (t : ℕ) {x r : ℕ} {b : Bool} → x ≡ setOf t p → b ≡ p t → r ≡ x + cond b (2 ^ t) 0 → r ≡ setOf (t + 1) p
+set-more p t e q h = h ∙ ap₂ (λ y c. y + cond c (2 ^ t) 0) e q ∙ sym (setOf-more t p) ∙ ap (λ k. setOf k p) (sym (add-one t))
+
+pub set-small : (p : ℕ → Bool) (t : ℕ) {x : ℕ} → x ≡ setOf t p → x < 2 ^ t
+set-small p t e = subst (λ y. y < 2 ^ t) (sym e) (setOf-lt t p)
+
+-- one turn of a loop that tests every number
+pub all-more : (p : ℕ → Bool) (k : ℕ) {a b : Bool} → a ≡ forAll k p → b ≡ p k → (a && b) ≡ forAll (k + 1) p
+unfolding forAll both
+all-more p k e q = ap₂ (λ a b. a && b) e q ∙ ap (λ j. forAll j p) (sym (add-one k))
+
+-- ---- members
+pub has-empty : (t : ℕ) → has 0 t ≡ false
+unfolding has
+has-empty t = rw (zero-div (2 ^ t))
+
+-- a set of states below n has no other
+pub has-beyond : (n x t : ℕ) → x < 2 ^ n → n ≤ t → has x t ≡ false
+unfolding has
+has-beyond n x t h k = let l : x < 2 ^ t = lt-of-lt-of-le h (pow-mono k) in rw (div-eq-of-lt l)
+
+pub has-single : (k t : ℕ) → has (2 ^ k) t ≡ eqb k t
+has-single zero zero = has-zero 1
+has-single zero (suc t) = has-suc 1 t ∙ has-empty t ∙ sym (eqb·zero-suc t)
+has-single (suc k) zero =
+    let e : 2 ^ suc k % 2 ≡ 0 = omega arith in
+    has-zero (2 ^ suc k) ∙ ap (λ x. eqb x 1) e ∙ sym (eqb·suc-zero k)
+has-single (suc k) (suc t) =
+    let e : 2 ^ suc k / 2 ≡ 2 ^ k = omega arith in
+    has-suc (2 ^ suc k) t ∙ ap (λ x. has x t) e ∙ has-single k t ∙ sym (eqb·suc-suc k t)
+
+-- a set with one state more
+pub or-single : (n k : ℕ) (p : ℕ → Bool) → k < n → bitOr (setOf n p) (2 ^ k) ≡ setOf n (λ t. either (p t) (eqb k t))
+or-single n k p h =
+    or-setOf n (setOf n p) (2 ^ k) (setOf-lt n p) (pow-lt h)
+    ∙ setOf-ext n _ _ (λ t l. ap₂ either (has-setOf n p t l) (has-single k t))
+
+-- ---- sets that meet
+-- a set is not empty exactly if some state is in it
+some-has : (n x : ℕ) → x < 2 ^ n → not (eqb x 0) ≡ forSome n (has x)
+some-has n x h = bool-ext _ _ (λ u. go u (forSome n (has x)) refl) (λ u. let (t, k, v) = forSome-use n (has x) u in not-T (eqb x 0) (λ e. subst T (has-empty t) (subst (λ y. T (has y t)) (eqb→eq x 0 e) v)))
+  where
+    go : T (not (eqb x 0)) → (b : Bool) → forSome n (has x) ≡ b → T (forSome n (has x))
+    go u true e = subst T (sym e) tt
+    go u false e =
+        let z : x ≡ 0 = set-ext n x 0 h (pow-pos n) (λ t k. is-false (has x t) (λ v. subst T e (forSome-mk n (has x) t k v)) ∙ sym (has-empty t)) in
+        absurd (T-not (eqb x 0) u (subst T (sym (eq-eqb x 0 z)) tt))
+
+pub meeting : (n x y : ℕ) → x < 2 ^ n → not (eqb (bitAnd x y) 0) ≡ forSome n (λ t. both (has x t) (has y t))
+meeting n x y h =
+    some-has n (bitAnd x y) (omega (arith, and-le-l x y)) ∙ ap (forSome n) (λ i t. has-and x y t i)

@@ -1,0 +1,9 @@
+// Classes of alike states. Document 01, "Alike states", with refusals 1 to 7 and 13.
+mod entries;
+mod graph;
+mod masks;
+mod refinement;
+
+pub use entries::Written;
+pub use entries::are_alike;
+pub use entries::classes;

@@ -1,0 +1,10 @@
+pub mod Laying
+pub mod Relations
+pub mod MergedBytes
+pub mod Replying
+pub mod Laws
+pub mod Files
+pub mod Fronts
+pub mod Renewed
+pub mod Areas
+pub mod Outcomes

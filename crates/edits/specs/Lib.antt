@@ -1,0 +1,5 @@
+pub mod Laid
+pub mod Relation
+pub mod Merged
+pub mod Shapes
+pub mod Plans

@@ -1,0 +1,4 @@
+pub mod Tables
+pub mod Plans
+pub mod Reaching
+pub mod Told

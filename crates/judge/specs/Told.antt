@@ -1,0 +1,14 @@
+-- The paper's values for each case of the enum that judging answers with.
+use Rattle.case_file.specs.Told.{number}
+use Rattle.case_model.specs.Judging as model
+use Rattle.case_model.specs.Replies.{Reply, answers, refuses}
+use Rattle.judge.specs.declared.entry.Verdict.{Verdict}
+use Rattle.judge.specs.declared.entry.Judged.{Judged}
+use Rattle.judge.specs.declared.entry.Judged.the-variants as judged
+
+abbrev pub answer : Verdict → model.Verdict
+answer v = record { set = v .set; rounds = v .rounds }
+
+abbrev pub told : Judged → Reply model.Verdict
+told (judged.Verdict v) = answers (answer v)
+told (judged.Refused r) = refuses (number (r .reason)) (r .place)

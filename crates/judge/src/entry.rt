@@ -1,0 +1,75 @@
+// The entry. It takes any bytes, any set and any work area.
+ghost use mathlib.Core.Path.{_≡_};
+ghost use lib.ListN.{length};
+ghost use Rattle.case_model.specs.Case.{read};
+ghost use Rattle.case_model.specs.Judging.{judging, cleared, verdict};
+ghost use Rattle.judge.specs.Plans.{Asked};
+ghost use Rattle.judge.specs.Told.{told, answer};
+use crate::plan::Plan;
+use crate::refresh::compute;
+use crate::refresh::refresh;
+use crate::tables::constant;
+use case_file::Case;
+use case_file::Reason;
+use case_file::Refusal;
+use case_file::Vetted;
+use case_file::refusal;
+use case_file::root;
+
+pub struct Verdict {
+    pub set: u16,
+    pub rounds: usize,
+}
+
+pub enum Judged {
+    Verdict(Verdict),
+    Refused(Refusal),
+}
+
+// The root's function at the set, and its rounds: all nodes that the root reaches, with no variable active.
+fn answer(work: &mut [u16], file: &[u8], plan: Plan, set: u16) -> Verdict
+    requires { ⌜ Asked (read (now file)) plan set (length (now work)) ⌝ }
+    ensures { λ r. ⌜ answer r ≡ verdict (read (now (file .entry))) set ⌝ }
+{
+    let all = work.len();
+    let top = root(file);
+    let size = plan.size;
+    constant(work, all, 0, 0);
+    refresh(work, file, plan, top, 0, 65536);
+    let rounds = compute(work, file, plan, top, 65536);
+    let at = top * size + set as usize;
+    let value = work[at];
+    Verdict { set: value, rounds }
+}
+
+// The root's function at a set, and its rounds, or the first refusal.
+pub fn judge(file: &[u8], set: u16, work: &mut [u16]) -> Judged
+    ensures { λ r. ⌜ told r ≡ judging (now (file .entry)) set (length (now (work .entry))) ⌝ }
+    ensures { λ r. ⌜ now (work .exit) ≡ cleared (judging (now (file .entry)) set (length (now (work .entry)))) (now (work .entry)) ⌝ }
+{
+    let vetted = Case::new(file);
+    let Vetted::Case(case) = vetted else {
+        return Judged::Refused(refusal(vetted));
+    };
+    let n = case.states();
+    let m = case.nodes();
+    let size = 1usize << n;
+    let words = work.len();
+    let x = set as usize;
+    if size <= x {
+        return Judged::Refused(Refusal {
+            reason: Reason::Beyond,
+            place: 0,
+        });
+    }
+    if words < 2 * m * size {
+        return Judged::Refused(Refusal {
+            reason: Reason::Work,
+            place: 0,
+        });
+    }
+    let plan = Plan::new(file, n, m);
+    let verdict = answer(work, file, plan, set);
+    constant(work, words, 0, 0);
+    Judged::Verdict(verdict)
+}

@@ -1,0 +1,12 @@
+// Judging: the root's function at a set, and its rounds, by tables of 2^n words in the lent work area. Document 01, "Judging".
+mod entry;
+mod nodes;
+mod plan;
+mod refresh;
+mod scopes;
+mod sets;
+mod tables;
+
+pub use entry::Judged;
+pub use entry::Verdict;
+pub use entry::judge;

@@ -1,0 +1,88 @@
+//! The proved judge's algorithm in Rust: node j's table is the words from j × 2^n on.
+use crate::plan::{Plan, ALWAYS};
+use crate::tables::Tables;
+
+/// The root's function at the set, and its rounds. The area is zero afterwards.
+pub fn judge(plan: &Plan, set: usize, work: &mut impl Tables) -> (u16, u64) {
+    refresh(plan, plan.root, 0, ALWAYS, work);
+    let rounds = compute(plan, plan.root, ALWAYS, work);
+    let answer = work.word(plan.root * plan.size + set);
+    work.clear();
+    (answer, rounds)
+}
+
+/// Computes the nodes below k that depend only on what is in `active`, and not only on what is in
+/// `old`.
+fn refresh<T: Tables>(plan: &Plan, k: usize, old: u32, active: u32, work: &mut T) {
+    if k == 0 {
+        return;
+    }
+    let j = k - 1;
+    refresh(plan, j, old, active, work);
+    let scope = plan.scopes[j];
+    if scope | active == active && scope | old != old {
+        compute(plan, j, active, work);
+    }
+}
+
+/// Computes node j from the lower ones: a binder's approximants until one equals the next. The
+/// answer is how many it took.
+fn compute<T: Tables>(plan: &Plan, j: usize, active: u32, work: &mut T) -> u64 {
+    let (kind, variable, body) = plan.node(j);
+    if kind < 11 {
+        fill(plan, j, work);
+        return 0;
+    }
+    let start = if kind == 11 { 0 } else { full(plan) };
+    work.constant(plan.size, j * plan.size, start);
+    let mut rounds = 0;
+    loop {
+        refresh(plan, j, active, active | 1 << variable, work);
+        if !work.advance(plan.size, body * plan.size, j * plan.size) {
+            return rounds;
+        }
+        rounds += 1;
+    }
+}
+
+fn full(plan: &Plan) -> u16 {
+    (plan.size - 1) as u16
+}
+
+/// Node j, which is no binder.
+fn fill<T: Tables>(plan: &Plan, j: usize, work: &mut T) {
+    let (kind, a, b) = plan.node(j);
+    let size = plan.size;
+    let (left, right, to) = (a * size, b * size, j * size);
+    match kind {
+        0 => work.constant(size, to, full(plan)),
+        1 => work.constant(size, to, 0),
+        2 => work.constant(size, to, plan.props[a]),
+        3 => work.constant(size, to, full(plan) - plan.props[a]),
+        4 => work.copy(size, plan.homes[a] * size, to),
+        5 => work.identity(size, to),
+        6 => diamond(plan, a, to, work),
+        7 => boxed(plan, a, to, work),
+        8 => work.union(size, left, right, to),
+        9 => work.intersection(size, left, right, to),
+        _ => work.chop(size, left, right, to),
+    }
+}
+
+/// None into the empty set; a state more adds those with a step into it.
+fn diamond<T: Tables>(plan: &Plan, action: usize, to: usize, work: &mut T) {
+    work.constant(1, to, 0);
+    for state in 0..plan.states {
+        work.widen(1 << state, to, plan.sources[16 * action + state]);
+    }
+}
+
+/// All states into the set of all; a state less takes away those with a step into it.
+fn boxed<T: Tables>(plan: &Plan, action: usize, to: usize, work: &mut T) {
+    let mut filled = to + plan.size - 1;
+    work.constant(1, filled, full(plan));
+    for state in 0..plan.states {
+        filled -= 1 << state;
+        work.narrow(1 << state, filled, !plan.sources[16 * action + state]);
+    }
+}

@@ -1,0 +1,107 @@
+//! What a judgement works out once from the file, as the proved judge does.
+
+pub struct Plan<'a> {
+    pub states: usize,
+    /// The words of a table: 2^n.
+    pub size: usize,
+    nodes: &'a [u8],
+    pub root: usize,
+    /// For each node its free variables as a mask, and beyond them bits that are always and never
+    /// active: the first in every node, the second in those that the root does not reach.
+    pub scopes: [u32; 64],
+    /// For each variable its binder.
+    pub homes: [usize; 16],
+    /// For each proposition the states that have it.
+    pub props: [u16; 8],
+    /// At 16a + t the states with an a-step to t.
+    pub sources: [u16; 128],
+}
+
+/// Active from the start.
+pub const ALWAYS: u32 = 1 << 16;
+/// Never active.
+const NEVER: u32 = 1 << 17;
+
+impl<'a> Plan<'a> {
+    /// The plan of a file that vetting accepts.
+    pub fn new(file: &'a [u8]) -> Self {
+        let [labels, steps, rule] = [0, 1, 2].map(|section| section_of(file, section));
+        let (&root, nodes) = rule.split_last().expect("a root");
+        let mut plan = Plan {
+            states: labels.len(),
+            size: 1 << labels.len(),
+            nodes,
+            root: root.into(),
+            scopes: [NEVER; 64],
+            homes: [0; 16],
+            props: [0; 8],
+            sources: [0; 128],
+        };
+        plan.read_labels(labels);
+        plan.read_steps(steps);
+        plan.read_nodes();
+        plan
+    }
+
+    /// The words of all tables.
+    pub fn words(&self) -> usize {
+        self.nodes.len() / 3 * self.size
+    }
+
+    /// Kind, A and B of node j.
+    pub fn node(&self, j: usize) -> (u8, usize, usize) {
+        let node = &self.nodes[3 * j..3 * j + 3];
+        (node[0], node[1].into(), node[2].into())
+    }
+
+    fn read_labels(&mut self, labels: &[u8]) {
+        for (state, label) in labels.iter().enumerate() {
+            for (i, prop) in self.props.iter_mut().enumerate() {
+                *prop |= u16::from(label >> i & 1) << state;
+            }
+        }
+    }
+
+    fn read_steps(&mut self, steps: &[u8]) {
+        for step in steps.chunks_exact(3) {
+            self.sources[16 * usize::from(step[1]) + usize::from(step[2])] |= 1 << step[0];
+        }
+    }
+
+    fn read_nodes(&mut self) {
+        let mut free = [0_u32; 64];
+        for j in 0..self.nodes.len() / 3 {
+            let (kind, a, b) = self.node(j);
+            free[j] = match kind {
+                4 => 1 << a,
+                8..=10 => free[a] | free[b],
+                11 | 12 => free[b] & !(1 << a),
+                _ => 0,
+            };
+            if kind >= 11 {
+                self.homes[a] = j;
+            }
+        }
+        self.scopes[self.root] = ALWAYS;
+        for j in (0..=self.root).rev() {
+            if self.scopes[j] == ALWAYS {
+                let (kind, a, b) = self.node(j);
+                if matches!(kind, 8..=10) {
+                    self.scopes[a] = ALWAYS;
+                }
+                if kind >= 8 {
+                    self.scopes[b] = ALWAYS;
+                }
+            }
+        }
+        for (scope, free) in self.scopes.iter_mut().zip(free) {
+            *scope |= free;
+        }
+    }
+}
+
+fn section_of(file: &[u8], section: usize) -> &[u8] {
+    let number = |at: usize| usize::from(u16::from_le_bytes([file[at], file[at + 1]]));
+    let offset = number(4 * section);
+    &file[offset..offset + number(4 * section + 2)]
+}

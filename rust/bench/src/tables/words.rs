@@ -1,0 +1,56 @@
+//! The work area, with and without bounds checks.
+#![allow(unsafe_code)]
+
+pub trait Words {
+    fn get(&self, at: usize) -> u16;
+    fn set(&mut self, at: usize, word: u16);
+    fn count(&self) -> usize;
+}
+
+/// Safe Rust: every access is checked.
+pub struct Checked<'a>(pub &'a mut [u16]);
+
+impl Words for Checked<'_> {
+    #[inline(always)]
+    fn get(&self, at: usize) -> u16 {
+        self.0[at]
+    }
+
+    #[inline(always)]
+    fn set(&mut self, at: usize, word: u16) {
+        self.0[at] = word;
+    }
+
+    fn count(&self) -> usize {
+        self.0.len()
+    }
+}
+
+/// No access is checked.
+pub struct Unchecked<'a>(&'a mut [u16]);
+
+impl<'a> Unchecked<'a> {
+    /// # Safety
+    /// Only words within the area are asked for as long as this lives.
+    pub unsafe fn new(words: &'a mut [u16]) -> Self {
+        Unchecked(words)
+    }
+}
+
+impl Words for Unchecked<'_> {
+    #[inline(always)]
+    fn get(&self, at: usize) -> u16 {
+        // SAFETY: whoever called `new` has promised it.
+        unsafe { *self.0.get_unchecked(at) }
+    }
+
+    #[inline(always)]
+    fn set(&mut self, at: usize, word: u16) {
+        // SAFETY: as in `get`.
+        unsafe { *self.0.get_unchecked_mut(at) = word }
+    }
+
+    fn count(&self) -> usize {
+        self.0.len()
+    }
+}

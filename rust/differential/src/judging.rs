@@ -1,0 +1,110 @@
+//! The comparison of judging by the two checkers, every lent word included.
+use crate::rng::Rng;
+use plain::{Case, Refusal, Verdict};
+use std::hint::black_box;
+
+/// What judging replies.
+pub type Judged = Result<Verdict, Refusal>;
+
+/// Words on either side of the lent area, to see that nothing is written there.
+const MARGIN: usize = 8;
+
+/// The set of all of so many states.
+pub fn all_states(states: usize) -> u16 {
+    ((1_u32 << states) - 1) as u16
+}
+
+/// The set of these states.
+pub fn set_of(states: &[usize]) -> u16 {
+    states.iter().map(|&state| 1 << state).sum()
+}
+
+/// Judges by both checkers, which must agree, and returns their reply.
+pub fn compare(file: &[u8], set: u16, words: usize) -> Judged {
+    let plain = plain::judge(file, set, words);
+    let proved = proved(file, set, words);
+    assert_eq!(proved, plain, "set {set}, {words} words, file {file:?}");
+    proved
+}
+
+/// Judges a valid case on these sets by the proved library, compares with the root's function by
+/// the plain checker, and returns the rounds.
+pub fn compare_sets(case: &Case, sets: &[u16]) -> u64 {
+    let file = plain::write(case);
+    let words = needed(&file);
+    let root = plain::meaning(case);
+    for &set in sets {
+        let expected = Verdict {
+            states: root.function[usize::from(set)].clone(),
+            rounds: root.rounds,
+        };
+        assert_eq!(proved(&file, set, words), Ok(expected), "{set}: {case:?}");
+    }
+    root.rounds
+}
+
+/// Judges a valid case of one or two states on every set by both checkers, compares with meet and
+/// join of all monotone functions, and returns the rounds.
+pub fn compare_with_all_functions(case: &Case) -> u64 {
+    let (file, states) = (plain::write(case), case.labels.len());
+    let (values, rounds) = plain::meaning_by_all_functions(case);
+    for set in 0..1 << states {
+        let value = values[usize::from(set)];
+        let states = (0..states).map(|s| value >> s & 1 == 1).collect();
+        let expected = Ok(Verdict { states, rounds });
+        assert_eq!(compare(&file, set, needed(&file)), expected, "{case:?}");
+    }
+    rounds
+}
+
+/// Judges by the proved library alone, in an area that held garbage, and checks every word of it:
+/// zero after an answer, unchanged after a refusal.
+pub fn proved(file: &[u8], set: u16, words: usize) -> Judged {
+    let mut rng = Rng::new(words as u64 ^ u64::from(set) << 32);
+    let before: Vec<u16> = (0..words + 2 * MARGIN)
+        .map(|_| rng.number() as u16)
+        .collect();
+    let mut area = before.clone();
+    let lent = MARGIN..MARGIN + words;
+    let file_before = file.to_vec();
+
+    let reply = hoidrul::judge(file, set, &mut area[lent.clone()]);
+
+    assert!(black_box(file) == file_before, "the lent file was changed");
+    let mut expected = before;
+    if reply.is_ok() {
+        expected[lent].fill(0);
+    }
+    assert!(
+        black_box(&area) == &expected,
+        "the work area after {reply:?}, set {set}, {words} words, file {file:?}"
+    );
+    reply
+        .map(|verdict| in_states(file, verdict))
+        .map_err(|refusal| Refusal::new(refusal.number, refusal.place))
+}
+
+/// The verdict with its set state by state; bits beyond the case must be 0.
+fn in_states(file: &[u8], verdict: hoidrul::Verdict) -> Verdict {
+    let (states, _) = plain::vet(file, 0).expect("what is answered is a case");
+    assert_eq!(
+        u32::from(verdict.set) >> states,
+        0,
+        "states beyond {states}"
+    );
+    Verdict {
+        states: (0..states).map(|s| verdict.set >> s & 1 == 1).collect(),
+        rounds: verdict.rounds,
+    }
+}
+
+/// How many words judging the file needs.
+///
+/// # Panics
+/// If the file is no case.
+pub fn needed(file: &[u8]) -> usize {
+    let (states, nodes) = plain::vet(file, 0).expect("a case");
+    let words = 2 * nodes * (1 << states);
+    assert_eq!(hoidrul::work_area(file), Ok(words));
+    words
+}

@@ -1,0 +1,122 @@
+//! Random cases judged by both checkers, from fixed seeds.
+use differential::formulas::{case, Bounds};
+use differential::generate;
+use differential::judging::{compare_sets, compare_with_all_functions};
+use differential::measure::{nesting, tree_size};
+use differential::rng::Rng;
+use plain::Case;
+
+/// Every set of so many states, or `most` of them at random.
+fn sets(rng: &mut Rng, states: usize, most: usize) -> Vec<u16> {
+    let all = 1 << states;
+    if all <= most {
+        return (0..all as u16).collect();
+    }
+    (0..most).map(|_| rng.below(all) as u16).collect()
+}
+
+/// How often so many rounds came; the last counts all above.
+#[derive(Debug, Default)]
+struct Rounds([usize; 6]);
+
+impl Rounds {
+    fn count(&mut self, rounds: u64) {
+        self.0[(rounds as usize).min(5)] += 1;
+    }
+
+    fn at_least(&self, rounds: usize) -> usize {
+        self.0[rounds..].iter().sum()
+    }
+}
+
+fn judge_drawn(
+    seed: u64,
+    count: usize,
+    most_sets: usize,
+    draw: impl Fn(&mut Rng) -> Case,
+) -> Rounds {
+    let mut rng = Rng::new(seed);
+    let mut rounds = Rounds::default();
+    for _ in 0..count {
+        let case = draw(&mut rng);
+        let sets = sets(&mut rng, case.labels.len(), most_sets);
+        rounds.count(compare_sets(&case, &sets));
+    }
+    println!("{rounds:?}");
+    rounds
+}
+
+/// Up to three binders within one another, on every set of up to four states.
+#[test]
+fn nested_binders() {
+    for states in 1..=5 {
+        let bounds = Bounds {
+            states,
+            nesting: 3,
+            depth: 4,
+        };
+        let rounds = judge_drawn(300 + states as u64, 1_000, 16, |rng| case(rng, bounds));
+        assert!(rounds.at_least(1) >= 300, "{states} states");
+        assert!(states == 1 || rounds.at_least(2) >= 50, "{states} states");
+    }
+}
+
+#[test]
+fn single_binders() {
+    for states in 6..=8 {
+        let bounds = Bounds {
+            states,
+            nesting: 1,
+            depth: 4,
+        };
+        let rounds = judge_drawn(300 + states as u64, 300, 8, |rng| case(rng, bounds));
+        assert!(rounds.at_least(2) >= 30, "{states} states");
+    }
+}
+
+/// No binder, so that the plain checker ends soon.
+#[test]
+fn large_tables() {
+    for states in 9..=16 {
+        let bounds = Bounds {
+            states,
+            nesting: 0,
+            depth: 2,
+        };
+        judge_drawn(300 + states as u64, 8, 8, |rng| case(rng, bounds));
+    }
+}
+
+/// Rules grown from the leaves up, as the tests of vetting draw them: more nodes, more of them
+/// shared and unreached.
+#[test]
+fn rules_from_the_leaves_up() {
+    let small = |case: &Case| case.labels.len() <= 5 && nesting(case) <= 3;
+    let rounds = judge_drawn(320, 1_500, 8, |rng| generate::case_where(rng, small));
+    assert!(rounds.at_least(1) >= 200);
+}
+
+/// Both checkers against meet and join of all monotone functions.
+#[test]
+fn all_monotone_functions() {
+    let mut rng = Rng::new(330);
+    let mut rounds = Rounds::default();
+    for i in 0..1_000 {
+        let states = 1 + i % 2;
+        let bounds = Bounds {
+            states,
+            nesting: 3,
+            depth: 3,
+        };
+        let turns = [0, 3, 36][states];
+        let case = loop {
+            let case = case(&mut rng, bounds);
+            if tree_size(&case, turns) <= 50_000 {
+                break case;
+            }
+        };
+        rounds.count(compare_with_all_functions(&case));
+    }
+    println!("{rounds:?}");
+    assert!(rounds.at_least(1) >= 300 && rounds.at_least(2) >= 20);
+}

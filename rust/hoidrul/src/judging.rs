@@ -1,0 +1,51 @@
+//! Judging: the root's function at a set of states.
+use crate::refusal::answer;
+use crate::{ffi, vet, Refusal};
+
+/// What judging answers.
+#[derive(Clone, Copy, Debug, PartialEq, Eq, Hash)]
+pub struct Verdict {
+    /// The root's function at the given set: bit i is state i.
+    pub set: u16,
+    /// The least k whose approximant of the root equals the next at every set; 0 where the root
+    /// is no binder.
+    pub rounds: u64,
+}
+
+/// Judges the case on a set of states, bit i for state i.
+///
+/// The work area may hold anything, and holds zero everywhere after an answer. A refusal leaves it
+/// unchanged. Refusals: 1 to 7, then 8 for a set beyond the case, then 9 for a work area of fewer
+/// words than [`work_area`] tells.
+///
+/// ```
+/// // Two states, a step of action 0 from 0 to 1; the rule μZ.τ or ⟨0⟩;Z: some steps lead there.
+/// let file = [
+///     12, 0, 2, 0, 14, 0, 3, 0, 17, 0, 19, 0, // pairs
+///     0, 0, // labels
+///     0, 0, 1, // steps
+///     4, 0, 0, 6, 0, 0, 10, 1, 0, 5, 0, 0, 8, 3, 2, 11, 0, 4, // nodes
+///     5, // root
+/// ];
+/// let mut work = vec![7; hoidrul::work_area(&file)?];
+/// let verdict = hoidrul::judge(&file, 0b10, &mut work)?;
+/// assert_eq!((verdict.set, verdict.rounds), (0b11, 2));
+/// assert!(work.iter().all(|&word| word == 0));
+///
+/// let refusal = hoidrul::judge(&file, 0b100, &mut work).unwrap_err();
+/// assert_eq!((refusal.number, refusal.place), (8, 0));
+/// # Ok::<(), hoidrul::Refusal>(())
+/// ```
+pub fn judge(file: &[u8], set: u16, work: &mut [u16]) -> Result<Verdict, Refusal> {
+    let reply = answer(ffi::judge(file, set, work))?;
+    Ok(Verdict {
+        set: reply as u16,
+        rounds: reply >> 16,
+    })
+}
+
+/// How many words of work area are enough to judge the case: 2 × m × 2^n. Refusals: 1 to 7.
+pub fn work_area(file: &[u8]) -> Result<usize, Refusal> {
+    let counts = vet(file, 0)?;
+    Ok(2 * counts.nodes * (1 << counts.states))
+}
