@@ -27,6 +27,12 @@ fn main() {
     for (first, second) in [(3, 4), (5, 6)] {
         against_rust(&on_last("nested binders", nested, first, second));
     }
+    for (name, kind) in [("union", 8), ("intersection", 9), ("chop", 10)] {
+        against_rust(&on_last(name, |p, q| repeated(p, q, kind), 5, 6));
+    }
+    for (name, kind) in [("diamond, union", 6), ("box, union", 7)] {
+        against_rust(&on_last(name, |p, q| modal(p, q, kind), 5, 6));
+    }
     println!(
         "\n{:<18} {:>2} {:>17} {:>17}",
         "case", "n", "proved", "plain"
@@ -38,12 +44,37 @@ fn main() {
 /// Wheels of these sizes, judged on the last state of each.
 fn on_last(
     name: &'static str,
-    case: fn(usize, usize) -> Case,
+    case: impl Fn(usize, usize) -> Case,
     first: usize,
     second: usize,
 ) -> Task {
     let set = set_of(&[first, first + second]);
     Task::new(name, &case(first, second), set)
+}
+
+/// Two wheels with a rule of 64 nodes that are one operation over and over: what one table costs.
+fn repeated(first: usize, second: usize, kind: u8) -> Case {
+    let nodes = (0..64).map(|j: u8| match j {
+        0 => (5, 0, 0),
+        _ => (kind, j - 1, j - 1),
+    });
+    with_rule(wheels(first, second), nodes.collect())
+}
+
+/// The same with a modality at every other node, joined by unions.
+fn modal(first: usize, second: usize, kind: u8) -> Case {
+    let nodes = (0..63).map(|j: u8| match j {
+        0 => (5, 0, 0),
+        _ if j % 2 == 1 => (kind, 0, 0),
+        _ => (8, j - 2, j - 1),
+    });
+    with_rule(wheels(first, second), nodes.collect())
+}
+
+fn with_rule(mut case: Case, nodes: Vec<(u8, u8, u8)>) -> Case {
+    case.root = nodes.len() as u8 - 1;
+    case.nodes = nodes;
+    case
 }
 
 fn against_rust(task: &Task) {
