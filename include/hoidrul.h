@@ -29,6 +29,21 @@ uint64_t hoidrul_open(const uint8_t *file, size_t len, size_t section);
  * Answer: set + rounds * 2^16. Refusals: 1 to 7, 8 if set >= 2^n, 9 if the work area is too short. */
 uint64_t hoidrul_judge(const uint8_t *file, size_t len, uint16_t set, uint16_t *work, size_t words);
 
+/* The functions below write to `out`, an area of `room` bytes. Answer: the count of bytes written, from its start;
+ * the bytes past them stay as they were. Refusal 13 if the area is shorter than the result. */
+
+/* Classes: for each state one byte, the lowest state alike to it. Refusals: 1 to 7, 13. */
+uint64_t hoidrul_classes(const uint8_t *file, size_t len, uint8_t *out, size_t room);
+
+/* Merging states s and t, in either order: the file of the case in which the lower stands for both.
+ * Refusals: 1 to 7, 8 if s or t is beyond the case, 10 if they are one state or not alike, 13. */
+uint64_t hoidrul_merge(const uint8_t *file, size_t len, size_t s, size_t t, uint8_t *out, size_t room);
+
+/* Rewriting by a law, 1 to 9, at a node: the file of the case with that rule.
+ * Refusals: 1 to 7, 11 if there is no such law or node or its shape does not fit, 12 if the rule would pass
+ * 64 nodes, 13. */
+uint64_t hoidrul_rewrite(const uint8_t *file, size_t len, size_t law, size_t node, uint8_t *out, size_t room);
+
 #ifdef __cplusplus
 }
 #endif

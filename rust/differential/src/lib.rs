@@ -3,8 +3,11 @@
 //! Everything is drawn from fixed seeds, so each run makes the same calls.
 #![forbid(unsafe_code)]
 
+pub mod alike_tables;
+pub mod chops;
 pub mod damage;
 pub mod drives;
+pub mod edits;
 pub mod formulas;
 pub mod generate;
 pub mod judging;

@@ -4,6 +4,23 @@ extern "C" {
     fn hoidrul_vet(file: *const u8, len: usize, section: usize) -> u64;
     fn hoidrul_open(file: *const u8, len: usize, section: usize) -> u64;
     fn hoidrul_judge(file: *const u8, len: usize, set: u16, work: *mut u16, words: usize) -> u64;
+    fn hoidrul_classes(file: *const u8, len: usize, out: *mut u8, room: usize) -> u64;
+    fn hoidrul_merge(
+        file: *const u8,
+        len: usize,
+        s: usize,
+        t: usize,
+        out: *mut u8,
+        room: usize,
+    ) -> u64;
+    fn hoidrul_rewrite(
+        file: *const u8,
+        len: usize,
+        law: usize,
+        node: usize,
+        out: *mut u8,
+        room: usize,
+    ) -> u64;
 }
 
 pub fn vet(file: &[u8], section: usize) -> u64 {
@@ -22,4 +39,22 @@ pub fn judge(file: &[u8], set: u16, work: &mut [u16]) -> u64 {
     // SAFETY: as for `vet`. It writes only the `words` words of the work area, which is borrowed
     // mutably until it returns, so it overlaps the file nowhere; any word is a valid `u16`.
     unsafe { hoidrul_judge(file.as_ptr(), file.len(), set, work, words) }
+}
+
+pub fn classes(file: &[u8], out: &mut [u8]) -> u64 {
+    let (room, out) = (out.len(), out.as_mut_ptr());
+    // SAFETY: as for `judge`, with the `room` bytes of the output area in place of the words.
+    unsafe { hoidrul_classes(file.as_ptr(), file.len(), out, room) }
+}
+
+pub fn merge(file: &[u8], s: usize, t: usize, out: &mut [u8]) -> u64 {
+    let (room, out) = (out.len(), out.as_mut_ptr());
+    // SAFETY: as for `classes`.
+    unsafe { hoidrul_merge(file.as_ptr(), file.len(), s, t, out, room) }
+}
+
+pub fn rewrite(file: &[u8], law: usize, node: usize, out: &mut [u8]) -> u64 {
+    let (room, out) = (out.len(), out.as_mut_ptr());
+    // SAFETY: as for `classes`.
+    unsafe { hoidrul_rewrite(file.as_ptr(), file.len(), law, node, out, room) }
 }

@@ -20,11 +20,13 @@
 //! ```
 #![deny(unsafe_code)]
 
+mod edits;
 #[allow(unsafe_code)]
 mod ffi;
 mod judging;
 mod refusal;
 
+pub use edits::{classes, merge, rewrite};
 pub use judging::{judge, work_area, Verdict};
 pub use refusal::Refusal;
 

@@ -4,20 +4,32 @@
 //! work by other means than the proved code wherever there is a choice.
 #![forbid(unsafe_code)]
 
+mod alike;
 mod all_functions;
+mod all_relations;
+mod book;
 mod case;
 mod free;
 mod judging;
+mod keyed;
 mod meaning;
+mod merging;
 mod model;
 mod node;
+mod output;
 mod refusal;
+mod rewriting;
 mod sets;
 mod vetting;
 
+pub use alike::classes;
 pub use all_functions::meaning_by_all_functions;
+pub use all_relations::classes_by_all_relations;
+pub use book::{Book, Edit};
 pub use case::{pack, write, Case, Triple};
 pub use judging::{judge, Verdict};
 pub use meaning::{meaning, Meaning};
+pub use merging::merge;
 pub use refusal::Refusal;
+pub use rewriting::rewrite;
 pub use vetting::{open, parse, vet};

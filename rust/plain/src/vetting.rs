@@ -9,7 +9,7 @@ const SECTIONS: usize = 3;
 const PAIRS_LENGTH: usize = 4 * SECTIONS;
 const LONGEST_CASE: usize = 6365;
 const MOST_STATES: usize = 16;
-const MOST_NODES: usize = 64;
+pub const MOST_NODES: usize = 64;
 const HIGHEST_ACTION: u8 = 7;
 
 /// The counts of states and nodes: n and m.

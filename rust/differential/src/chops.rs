@@ -1,0 +1,39 @@
+//! Rules in which the laws find much to rewrite: nested chops, unions and intersections.
+use crate::rng::Rng;
+use plain::{Case, Triple};
+
+/// The leaves: node 4 is the variable that the root binds.
+const LEAVES: [Triple; 8] = [
+    (5, 0, 0),
+    (2, 0, 0),
+    (3, 1, 0),
+    (0, 0, 0),
+    (4, 0, 0),
+    (6, 0, 0),
+    (7, 1, 0),
+    (6, 1, 0),
+];
+
+/// The case with a rule of so many nodes at most: a binder over nodes that name two each.
+pub fn put_into(rng: &mut Rng, case: Case, most: usize) -> Case {
+    let mut nodes = LEAVES.to_vec();
+    for _ in 0..rng.within(1..=most - LEAVES.len() - 1) {
+        let kind = rng.pick(&[8, 9, 10, 10]);
+        let (left, right) = (named(rng, nodes.len()), named(rng, nodes.len()));
+        nodes.push((kind, left, right));
+    }
+    nodes.push((11 + rng.byte_below(2), 0, nodes.len() as u8 - 1));
+    Case {
+        root: nodes.len() as u8 - 1,
+        nodes,
+        ..case
+    }
+}
+
+/// One of the latest, so that shapes nest, or a leaf.
+fn named(rng: &mut Rng, count: usize) -> u8 {
+    if rng.one_in(2) {
+        return rng.byte_below(LEAVES.len());
+    }
+    rng.within(count - 3..=count - 1) as u8
+}

@@ -1,0 +1,104 @@
+//! Classes of alike states by both checkers, from fixed seeds. The comparison checks every byte
+//! that is lent.
+use differential::damage::DAMAGES;
+use differential::edits::{classes, rooms};
+use differential::rng::Rng;
+use differential::strange::STRANGE;
+use differential::{alike_tables, drives, generate};
+use plain::{classes_by_all_relations, write, Refusal};
+
+#[test]
+fn drives() {
+    assert_eq!(classes(&write(&drives::f()), 2), Ok(vec![0, 1]));
+    let wheels = write(&drives::wheels(3, 4));
+    assert_eq!(classes(&wheels, 8), Ok(vec![0, 1, 1, 1, 1, 1, 1, 1]));
+}
+
+/// Two states that one step, or one bit of their labels, tells apart.
+#[test]
+fn every_action_and_label_bit_counts() {
+    let mut case = drives::f();
+    (case.labels, case.nodes, case.root) = (vec![0; 3], vec![(5, 0, 0)], 0);
+    for action in 0..8 {
+        case.steps = vec![(1, action, 0)];
+        assert_eq!(classes(&write(&case), 3), Ok(vec![0, 1, 0]));
+        case.steps = vec![(0, action, 2), (1, action, 2)];
+        assert_eq!(classes(&write(&case), 3), Ok(vec![0, 0, 2]));
+        case.steps = vec![(0, action, 2), (1, (action + 1) % 8, 2)];
+        assert_eq!(classes(&write(&case), 3), Ok(vec![0, 1, 2]));
+    }
+    case.steps.clear();
+    for bit in 0..8 {
+        case.labels[1] = 1 << bit;
+        assert_eq!(classes(&write(&case), 3), Ok(vec![0, 1, 0]));
+    }
+}
+
+#[test]
+fn tables_with_alike_states() {
+    let mut rng = Rng::new(600);
+    let (mut fewer, mut all) = (0, 0);
+    for i in 0..1_500 {
+        let states = 1 + i % 16;
+        let found = classes(&write(&alike_tables::case(&mut rng, states)), 16).unwrap();
+        assert_eq!(found.len(), states);
+        let count = (0..states).filter(|&s| usize::from(found[s]) == s).count();
+        fewer += usize::from(count < states);
+        all += usize::from(count == states);
+    }
+    assert!(fewer >= 800 && all >= 100, "{fewer} {all}");
+}
+
+#[test]
+fn small_tables_by_all_relations() {
+    let mut rng = Rng::new(610);
+    for i in 0..300 {
+        let case = alike_tables::case(&mut rng, 1 + i % 3);
+        let expected = classes_by_all_relations(&case);
+        assert_eq!(classes(&write(&case), 3), Ok(expected), "{case:?}");
+    }
+}
+
+#[test]
+fn tables_of_any_kind() {
+    let mut rng = Rng::new(620);
+    for _ in 0..500 {
+        let file = write(&generate::case(&mut rng));
+        assert!(classes(&file, 20).is_ok());
+    }
+}
+
+#[test]
+fn areas_of_every_length() {
+    let mut rng = Rng::new(630);
+    for i in 0..64 {
+        let file = write(&alike_tables::case(&mut rng, 1 + i % 16));
+        let result = classes(&file, 16).unwrap();
+        rooms(&file, &result, classes);
+    }
+}
+
+#[test]
+fn damaged_cases() {
+    for (seed, (name, damage)) in (640..).zip(DAMAGES) {
+        let mut rng = Rng::new(seed);
+        for _ in 0..50 {
+            let damaged = damage(&mut rng);
+            let reply = classes(&damaged.file, rng.below(32));
+            assert_eq!(reply, Err(damaged.refusal), "{name}: {:?}", damaged.file);
+        }
+    }
+}
+
+#[test]
+fn strange_files() {
+    let mut rng = Rng::new(670);
+    let mut short = 0;
+    for draw in STRANGE {
+        for _ in 0..300 {
+            let reply = classes(&draw(&mut rng), rng.below(16));
+            short += usize::from(reply == Err(Refusal::new(13, 0)));
+        }
+    }
+    assert!(short > 0);
+}

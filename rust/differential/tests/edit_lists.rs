@@ -1,0 +1,159 @@
+//! Whole lists of edits, refused ones included, by the library and by the plain book, from fixed
+//! seeds. At the end each state of the first case must hold if and only if the state standing for
+//! it does.
+use differential::edits::{turn, LONGEST};
+use differential::judging::{all_states, needed, proved};
+use differential::rng::Rng;
+use differential::{alike_tables, chops, drives, generate};
+use plain::{write, Book, Case, Edit};
+
+/// How often each reply came.
+#[derive(Default, Debug)]
+struct Count {
+    merges: usize,
+    rewrites: usize,
+    refusals: [usize; 14],
+    /// Lists of a case in which some states hold and some do not.
+    mixed: usize,
+}
+
+/// For each state whether it holds.
+fn verdict(file: &[u8]) -> Vec<bool> {
+    let (states, _) = plain::vet(file, 0).expect("a case");
+    let judged = proved(file, all_states(states), needed(file));
+    judged.expect("the area suffices").states
+}
+
+fn is_mixed(verdict: &[bool]) -> bool {
+    verdict.contains(&true) && verdict.contains(&false)
+}
+
+/// Up to 60 edits of this file; each gets what the last accepted one wrote.
+fn run(rng: &mut Rng, first: &[u8], count: &mut Count) {
+    let mut book = Book::new(first).expect("an accepted case");
+    let mut file = first.to_vec();
+    for _ in 0..rng.within(1..=60) {
+        let edit = draw(rng, &file);
+        let room = room(rng, &file);
+        match (turn(&mut book, &file, edit, room), edit) {
+            (Err(refusal), _) => count.refusals[refusal.number as usize] += 1,
+            (Ok(written), edit) => {
+                file = written;
+                match edit {
+                    Edit::Merge { .. } => count.merges += 1,
+                    Edit::Rewrite { .. } => count.rewrites += 1,
+                }
+            }
+        }
+        assert_eq!(file, book.file());
+    }
+    let (start, end) = (verdict(first), verdict(&file));
+    count.mixed += usize::from(is_mixed(&start));
+    let standing: Vec<bool> = book.standing().iter().map(|&state| end[state]).collect();
+    assert_eq!(start, standing, "{first:?} became {file:?}");
+}
+
+/// Mostly an edit that fits, if a few draws find one; merges are rarer, so that states last.
+fn draw(rng: &mut Rng, file: &[u8]) -> Edit {
+    let case = plain::parse(file).expect("a case");
+    let any = [rng.below(64), case.nodes.len(), 256, usize::MAX];
+    match rng.below(8) {
+        0 => first_that_fits(file, || merge(rng, case.labels.len())),
+        1..=5 => first_that_fits(file, || rewrite_at_two(rng, &case)),
+        6 => merge(rng, case.labels.len() + 1),
+        _ => Edit::Rewrite {
+            law: rng.below(11),
+            node: rng.pick(&any),
+        },
+    }
+}
+
+/// The first of some draws that is neither unlike states nor a shape that isn't there.
+fn first_that_fits(file: &[u8], mut draw: impl FnMut() -> Edit) -> Edit {
+    let fits = |edit: &Edit| {
+        let reply = match *edit {
+            Edit::Merge { s, t } => plain::merge(file, s, t, LONGEST),
+            Edit::Rewrite { law, node } => plain::rewrite(file, law, node, LONGEST),
+        };
+        reply.map_or_else(|refusal| refusal.number == 12, |_| true)
+    };
+    let draws: Vec<Edit> = (0..12).map(|_| draw()).collect();
+    draws.iter().copied().find(fits).unwrap_or(draws[0])
+}
+
+fn merge(rng: &mut Rng, states: usize) -> Edit {
+    let (s, t) = (rng.below(states), rng.below(states));
+    Edit::Merge { s, t }
+}
+
+/// A law at a node that names two others, if there is one.
+fn rewrite_at_two(rng: &mut Rng, case: &Case) -> Edit {
+    let two = |&j: &usize| (8..=10).contains(&case.nodes[j].0);
+    let mut nodes: Vec<usize> = (0..case.nodes.len()).filter(two).collect();
+    nodes.push(0);
+    Edit::Rewrite {
+        law: rng.within(1..=9),
+        node: rng.pick(&nodes),
+    }
+}
+
+/// Mostly enough, else around what a result may need.
+fn room(rng: &mut Rng, file: &[u8]) -> usize {
+    match rng.below(8) {
+        0 => rng.within(file.len() - 10..=file.len() + 6),
+        1 => rng.below(file.len()),
+        _ => LONGEST,
+    }
+}
+
+/// A case with alike states, its rule small, middling or large.
+fn case(rng: &mut Rng, i: usize) -> Case {
+    let case = alike_tables::case(rng, 1 + i % 8);
+    match i % 3 {
+        0 => case,
+        1 => chops::put_into(rng, case, 24),
+        _ => chops::put_into(rng, case, 64),
+    }
+}
+
+#[test]
+fn alike_states() {
+    let mut rng = Rng::new(900);
+    let mut count = Count::default();
+    for i in 0..300 {
+        // A verdict of all states or none tells little: a few draws look for another.
+        let draws: Vec<Case> = (0..6).map(|_| case(&mut rng, i)).collect();
+        let mixed = draws.iter().find(|case| is_mixed(&verdict(&write(case))));
+        run(&mut rng, &write(mixed.unwrap_or(&draws[0])), &mut count);
+    }
+    println!("{count:?}");
+    assert!(count.merges >= 200 && count.rewrites >= 1_000, "{count:?}");
+    for row in [8, 10, 11, 12, 13] {
+        assert!(count.refusals[row] >= 20, "{count:?}");
+    }
+    assert!(count.mixed >= 80, "{count:?}");
+}
+
+#[test]
+fn rules_of_any_kind() {
+    let mut rng = Rng::new(910);
+    let mut count = Count::default();
+    for _ in 0..80 {
+        let case = generate::case_where(&mut rng, |case| case.labels.len() <= 5);
+        run(&mut rng, &write(&case), &mut count);
+    }
+    println!("{count:?}");
+    assert!(count.rewrites >= 500, "{count:?}");
+}
+
+#[test]
+fn drives() {
+    let mut rng = Rng::new(920);
+    let mut count = Count::default();
+    for (_, case) in drives::drives() {
+        for _ in 0..5 {
+            run(&mut rng, &write(&case), &mut count);
+        }
+    }
+    assert!(count.merges >= 5 && count.rewrites >= 100, "{count:?}");
+}

@@ -1,0 +1,229 @@
+//! Rewriting by both checkers, from fixed seeds. The comparison checks every byte that is lent.
+use differential::damage::DAMAGES;
+use differential::edits::{rewrite, rooms, LONGEST};
+use differential::formulas::{self, Bounds};
+use differential::rng::Rng;
+use differential::{chops, drives, generate};
+use plain::{write, Case, Refusal, Triple};
+
+/// The laws and numbers that are none, some of them right modulo a power of two.
+const LAWS: [usize; 14] = [
+    0,
+    1,
+    2,
+    3,
+    4,
+    5,
+    6,
+    7,
+    8,
+    9,
+    10,
+    257,
+    (1 << 32) + 9,
+    usize::MAX,
+];
+
+#[derive(Default)]
+struct Count {
+    /// By law, 1 to 9.
+    answers: [usize; 10],
+    refusals: [usize; 14],
+}
+
+impl Count {
+    /// Tries every law at every node and beyond, with room for any result.
+    fn everywhere(&mut self, case: &Case) {
+        let (file, nodes) = (write(case), case.nodes.len());
+        let beyond = [nodes, nodes + 1, 256, 1 << 32, usize::MAX];
+        for law in LAWS {
+            for node in (0..nodes).chain(beyond) {
+                self.one(&file, law, node);
+            }
+        }
+    }
+
+    fn one(&mut self, file: &[u8], law: usize, node: usize) {
+        match rewrite(file, law, node, file.len() + 6) {
+            Ok(_) => self.answers[law] += 1,
+            Err(refusal) => self.refusals[refusal.number as usize] += 1,
+        }
+    }
+}
+
+#[test]
+fn examples_of_the_table() {
+    let f = write(&drives::f());
+    let refused = |number| Err(Refusal::new(number, 0));
+    assert_eq!(rewrite(&f, 1, 9, 51), refused(11));
+    assert_eq!(rewrite(&f, 9, 8, 50), refused(13));
+    assert_eq!(rewrite(&f, 9, 8, 51).unwrap()[44..47], [8, 6, 7]);
+}
+
+#[test]
+fn random_rules() {
+    let mut rng = Rng::new(800);
+    let mut count = Count::default();
+    for i in 0..24 {
+        let bounds = Bounds {
+            states: 1 + i % 3,
+            nesting: 2,
+            depth: 4,
+        };
+        let case = formulas::case(&mut rng, bounds);
+        count.everywhere(&case);
+        count.everywhere(&chops::put_into(&mut rng, case, 64));
+        count.everywhere(&generate::case_where(&mut rng, |case| {
+            case.steps.len() <= 30
+        }));
+    }
+    println!("{:?} {:?}", count.answers, count.refusals);
+    assert!(count.answers[1..].iter().all(|&answers| answers >= 5));
+}
+
+/// A node of this kind over nodes 0 and 1, its variable free or bound by no other.
+fn over_leaves(kind: u8, variable: u8) -> Triple {
+    match kind {
+        0 | 1 | 5 => (kind, 0, 0),
+        8..=10 => (kind, 0, 1),
+        11 | 12 => (kind, variable, 1),
+        _ => (kind, 1, 0),
+    }
+}
+
+/// A node of kind `top` over two of kinds `left` and `right`, or over the same one twice, with
+/// other mentions of it behind.
+fn shape(top: u8, left: u8, right: u8, twice: bool) -> Case {
+    let (a, b) = if twice { (2, 2) } else { (2, 3) };
+    let a = if top >= 11 { 14 } else { a };
+    let nodes = vec![
+        (6, 0, 0),
+        (7, 1, 0),
+        over_leaves(left, 12),
+        over_leaves(right, 13),
+        (top, a, b),
+        (8, 4, 4),
+        (10, 4, 5),
+        (12, 4, 6),
+    ];
+    // Node 4 cannot be the root where it has a free variable.
+    let closed = left != 4 && right != 4;
+    Case {
+        labels: vec![1],
+        steps: vec![(0, 0, 0)],
+        nodes,
+        root: if closed { 4 + top % 4 } else { 0 },
+    }
+}
+
+fn shapes() -> impl Iterator<Item = Case> {
+    (0..5 * 13 * 13 * 2_usize).map(|i| {
+        let kind = |i: usize| (i % 13) as u8;
+        shape(8 + (i / 338) as u8, kind(i), kind(i / 13), i / 169 % 2 == 1)
+    })
+}
+
+/// Every shape of a node over two others: those that a law wants and those that are nearly so.
+#[test]
+fn every_shape() {
+    let mut count = Count::default();
+    for case in shapes() {
+        let file = write(&case);
+        for law in LAWS {
+            for node in 4..=6 {
+                count.one(&file, law, node);
+            }
+        }
+    }
+    println!("{:?} {:?}", count.answers, count.refusals);
+    assert!(count.answers[1..].iter().all(|&answers| answers >= 20));
+}
+
+/// Leaves before the shape, or behind it, up to so many nodes.
+fn padded(case: &Case, nodes: usize, in_front: bool) -> Case {
+    let more = nodes - case.nodes.len();
+    let mut padded = case.clone();
+    if !in_front {
+        padded.nodes.resize(nodes, (5, 0, 0));
+        return padded;
+    }
+    let up = |named: u8| named + more as u8;
+    padded.nodes = vec![(5, 0, 0); more];
+    let moved = case.nodes.iter().map(|&(kind, a, b)| match kind {
+        8..=10 => (kind, up(a), up(b)),
+        11 | 12 => (kind, a, up(b)),
+        _ => (kind, a, b),
+    });
+    padded.nodes.extend(moved);
+    padded.root = up(case.root);
+    padded
+}
+
+/// One node more fits 63 nodes, two more fit 62.
+#[test]
+fn near_64_nodes() {
+    let mut refused = 0;
+    for case in [
+        shape(10, 8, 10, false),
+        shape(10, 9, 5, false),
+        shape(10, 10, 10, true),
+    ] {
+        for (nodes, in_front) in [61, 62, 63, 64]
+            .iter()
+            .flat_map(|&n| [(n, false), (n, true)])
+        {
+            let mut count = Count::default();
+            let padded = padded(&case, nodes, in_front);
+            count.everywhere(&padded);
+            refused += count.refusals[12];
+            let node = if in_front { nodes - 4 } else { 4 };
+            let file = write(&padded);
+            for (law, more) in [(4, 1), (5, 1), (6, 2), (7, 2)] {
+                let fits = rewrite(&write(&case), law, 4, LONGEST).is_ok();
+                let expected = match (fits, nodes + more > 64) {
+                    (false, _) => Err(Refusal::new(11, 0)),
+                    (true, true) => Err(Refusal::new(12, 0)),
+                    (true, false) => Ok(file.len() + 3 * more),
+                };
+                let reply = rewrite(&file, law, node, LONGEST).map(|file| file.len());
+                assert_eq!(reply, expected, "law {law}, {nodes} nodes");
+                // Too many nodes are told before the area is.
+                let short = expected.map_or_else(|r| r, |_| Refusal::new(13, 0));
+                assert_eq!(rewrite(&file, law, node, 0), Err(short));
+            }
+        }
+    }
+    assert!(refused >= 20, "{refused}");
+}
+
+#[test]
+fn areas_of_every_length() {
+    for law in 1..=9 {
+        let mut tried = 0;
+        for file in shapes().map(|case| write(&case)) {
+            let node = 4 + tried % 3;
+            let Ok(result) = plain::rewrite(&file, law, node, LONGEST) else {
+                continue;
+            };
+            rooms(&file, &result, |file, room| rewrite(file, law, node, room));
+            tried += 1;
+            if tried == 20 {
+                break;
+            }
+        }
+        assert!(tried > 0, "law {law}");
+    }
+}
+
+#[test]
+fn damaged_cases() {
+    for (seed, (name, damage)) in (830..).zip(DAMAGES) {
+        let mut rng = Rng::new(seed);
+        for _ in 0..50 {
+            let damaged = damage(&mut rng);
+            let (law, node, room) = (rng.below(11), rng.below(66), rng.below(200));
+            let reply = rewrite(&damaged.file, law, node, room);
+            assert_eq!(reply, Err(damaged.refusal), "{name}: {:?}", damaged.file);
+        }
+    }
+}

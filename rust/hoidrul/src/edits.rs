@@ -1,0 +1,81 @@
+//! Entries that write to an output area: classes, merging, rewriting.
+//!
+//! Each answers the count of bytes written, from the area's start. Output bytes past the result,
+//! and all of them after a refusal, stay as they were.
+use crate::refusal::answer;
+use crate::{ffi, Refusal};
+
+/// Writes for each state the lowest state alike to it, one byte each.
+///
+/// Refusals: 1 to 7, then 13 for an area shorter than the result.
+///
+/// ```
+/// // Three states, a step of action 0 from each of 0 and 1 to 2; the rule τ.
+/// let file = [
+///     12, 0, 3, 0, 15, 0, 6, 0, 21, 0, 4, 0, // pairs
+///     0, 0, 0, // labels
+///     0, 0, 2, 1, 0, 2, // steps
+///     5, 0, 0, 0, // rule
+/// ];
+/// let mut out = [9; 4];
+/// assert_eq!(hoidrul::classes(&file, &mut out)?, 3);
+/// assert_eq!(out, [0, 0, 2, 9]);
+/// # Ok::<(), hoidrul::Refusal>(())
+/// ```
+pub fn classes(file: &[u8], out: &mut [u8]) -> Result<usize, Refusal> {
+    count(ffi::classes(file, out))
+}
+
+/// Merges two alike states, given in either order: writes the file of the case in which the lower
+/// stands for both.
+///
+/// Refusals: 1 to 7, then 8 for a state beyond the case, 10 for a state with itself or states not
+/// alike, 13 for an area shorter than the result.
+///
+/// ```
+/// // The case of `classes`.
+/// let file = [
+///     12, 0, 3, 0, 15, 0, 6, 0, 21, 0, 4, 0, // pairs
+///     0, 0, 0, // labels
+///     0, 0, 2, 1, 0, 2, // steps
+///     5, 0, 0, 0, // rule
+/// ];
+/// let mut out = [0; 64];
+/// let length = hoidrul::merge(&file, 1, 0, &mut out)?;
+/// assert_eq!(hoidrul::open(&out[..length], 0), [0, 0]);
+/// assert_eq!(hoidrul::open(&out[..length], 1), [0, 0, 1]);
+///
+/// assert_eq!(hoidrul::merge(&file, 0, 2, &mut out).unwrap_err().number, 10);
+/// # Ok::<(), hoidrul::Refusal>(())
+/// ```
+pub fn merge(file: &[u8], s: usize, t: usize, out: &mut [u8]) -> Result<usize, Refusal> {
+    count(ffi::merge(file, s, t, out))
+}
+
+/// Rewrites by a law, 1 to 9, at a node: writes the file of the case with that rule.
+///
+/// Refusals: 1 to 7, then 11 where there is no such law or node or its shape does not fit, 12 where
+/// the rule would pass 64 nodes, 13 for an area shorter than the result.
+///
+/// ```
+/// // One state, no steps, the rule tt or ff; law 9 swaps the two.
+/// let file = [
+///     12, 0, 1, 0, 13, 0, 0, 0, 13, 0, 10, 0, // pairs
+///     0, // labels
+///     0, 0, 0, 1, 0, 0, 8, 0, 1, // nodes
+///     2, // root
+/// ];
+/// let mut out = [0; 64];
+/// let length = hoidrul::rewrite(&file, 9, 2, &mut out)?;
+/// assert_eq!(hoidrul::open(&out[..length], 2), [0, 0, 0, 1, 0, 0, 8, 1, 0, 2]);
+///
+/// assert_eq!(hoidrul::rewrite(&file, 8, 2, &mut out).unwrap_err().number, 11);
+/// # Ok::<(), hoidrul::Refusal>(())
+/// ```
+pub fn rewrite(file: &[u8], law: usize, node: usize, out: &mut [u8]) -> Result<usize, Refusal> {
+    count(ffi::rewrite(file, law, node, out))
+}
+
+fn count(reply: u64) -> Result<usize, Refusal> {
+    answer(reply).map(|bytes| bytes as usize)
+}

@@ -1,0 +1,54 @@
+//! Alike states: the largest bisimulation, and classes.
+use crate::case::Case;
+use crate::model::Model;
+use crate::output::in_room;
+use crate::refusal::Refusal;
+use crate::vetting::parse;
+use std::collections::BTreeSet;
+
+/// Pairs of related states.
+pub type Relation = BTreeSet<(usize, usize)>;
+
+/// Rows 1 to 7 and 13, then for each state the lowest state alike to it.
+pub fn classes(file: &[u8], room: usize) -> Result<Vec<u8>, Refusal> {
+    let case = parse(file)?;
+    in_room(lowest(&alike(&case), case.labels.len()), room)
+}
+
+/// For each state the lowest that the relation pairs with it.
+pub fn lowest(relation: &Relation, states: usize) -> Vec<u8> {
+    let related = |s: usize| (0..states).find(|&t| relation.contains(&(s, t)));
+    (0..states)
+        .map(|s| related(s).expect("a state is alike to itself") as u8)
+        .collect()
+}
+
+/// The largest bisimulation: from all pairs, deletes those with a step that is not met, or with
+/// other labels, until none is left. No bisimulation loses a pair in this.
+///
+/// # Panics
+/// If rows 1 to 7 meet the case.
+pub fn alike(case: &Case) -> Relation {
+    let model = Model::new(case);
+    let mut relation: Relation = (0..model.states)
+        .flat_map(|s| (0..model.states).map(move |t| (s, t)))
+        .collect();
+    relation.retain(|&(s, t)| case.labels[s] == case.labels[t]);
+    loop {
+        let before = relation.clone();
+        relation.retain(|&pair| steps_are_met(&model, &before, pair));
+        if relation == before {
+            return relation;
+        }
+    }
+}
+
+/// Does each step of either state meet one of the other, same action, into a related state?
+fn steps_are_met(model: &Model, relation: &Relation, (s, t): (usize, usize)) -> bool {
+    (0..8).all(|action| {
+        let (of_s, of_t) = (model.successors(s, action), model.successors(t, action));
+        let related = |x: &usize, y: &usize| relation.contains(&(*x, *y));
+        of_s.iter().all(|x| of_t.iter().any(|y| related(x, y)))
+            && of_t.iter().all(|y| of_s.iter().any(|x| related(x, y)))
+    })
+}
