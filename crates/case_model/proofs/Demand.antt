@@ -1,12 +1,12 @@
 -- Demand 3 of the plain book: its file stays accepted, and a state holds in the first case exactly if the state standing for it holds in the last.
 -- An accepted edit keeps both, by what merging and rewriting keep of a valid case; a refused one changes nothing.
-use Prim.Native.Nat.{ℕ, _^_, _≤_, _<_, min, max}
+use Prim.Native.Nat.{ℕ, _≤_, _<_, min, max}
 use mathlib.Core.Bool.{Bool, true}
 use mathlib.Core.List.{List, [], _∷_}
 use mathlib.Core.Path.{_≡_, refl, sym, ap, _∙_, subst}
 use native.Mathlib.Decide.{decLt}
 use native.Mathlib.Omega.{arith}
-use borrow.Author.Tests.{ltb-true, leb-true, eqb-false, not-true}
+use borrow.Author.Tests.{lt-ltb, ltb-true, leb-true, eqb-false, not-true}
 use lib.Dec.{T, eqb, leb}
 use lib.ListN.{length}
 use Rattle.flc.specs.Sets.{has}
@@ -15,11 +15,11 @@ use Rattle.flc.proofs.Masks.{setOf-lt}
 use Rattle.case_model.specs.Case.{Triple, Case, read, write, table}
 use Rattle.case_model.specs.Rows.{Found, sound, refused, _orElse_, unless, row8, mostNodes, refusals}
 use Rattle.case_model.specs.Replies.{Reply, answers, refuses, replied}
-use Rattle.case_model.specs.Judging.{Verdict, verdict, row9, judging}
+use Rattle.case_model.specs.Judging.{verdict, row9, judging}
 use Rattle.case_model.specs.Merging.{row13, moved, merge, row10, merging}
 use Rattle.case_model.specs.Rewriting.{Change, nothing, swap, change, isThere, rewrite, rewriting}
 use Rattle.case_model.specs.Book.{Edit, merges, rewrites, Book, begun, reply, restood, entered, turn, book}
-use Rattle.case_model.specs.Run.{allStates}
+use Rattle.case_model.specs.Run.{allStates, holds}
 use Rattle.case_model.proofs.Tests.{and-l, and-r}
 use Rattle.case_model.proofs.Sections.{left-sound, right-sound, unless-sound}
 use Rattle.case_model.proofs.Valid.{Valid, accepted-valid}
@@ -29,24 +29,24 @@ use Rattle.case_model.proofs.Merged.{merge-valid, moved-in, merge-holds
 use Rattle.case_model.proofs.Unlike.{alike-turned}
 use Rattle.case_model.proofs.Rewritten.{rewrite-holds, rewrite-valid}
 
--- "A state holds if it is in judging's answer on the set of all states"
-unfoldable pub holds : Case → ℕ → Bool
-holds c s = has (verdict c (allStates c) .set) s
+-- state s is in the verdict on the set of all states
+unfoldable pub satisfied : Case → ℕ → Bool
+satisfied c s = has (verdict c (allStates c) .set) s
 
 -- the state g s of the last file stands for the state s of the first
 pub record Stands (first last : List ℕ) (g : ℕ → ℕ) : Type 0 where
   pub accepted : refusals last ≡ sound
   pub within : (s : ℕ) → s < length (read first .labels) → g s < length (read last .labels)
-  pub same : (s : ℕ) → s < length (read first .labels) → holds (read first) s ≡ holds (read last) (g s)
+  pub same : (s : ℕ) → s < length (read first .labels) → satisfied (read first) s ≡ satisfied (read last) (g s)
 
 -- a valid case is written as such a file
 written-stands : (f : List ℕ) (c : Case) (g : ℕ → ℕ) → Valid c
     → ((s : ℕ) → s < length (read f .labels) → g s < length (c .labels))
-    → ((s : ℕ) → s < length (read f .labels) → holds (read f) s ≡ holds c (g s)) → Stands f (write c) g
+    → ((s : ℕ) → s < length (read f .labels) → satisfied (read f) s ≡ satisfied c (g s)) → Stands f (write c) g
 written-stands f c g valid within same = record {
   accepted = valid-accepted c valid;
   within = subst (λ (d : Case). (s : ℕ) → s < length (read f .labels) → g s < length (d .labels)) (sym (read-write c)) within;
-  same = subst (λ (d : Case). (s : ℕ) → s < length (read f .labels) → holds (read f) s ≡ holds d (g s)) (sym (read-write c)) same;
+  same = subst (λ (d : Case). (s : ℕ) → s < length (read f .labels) → satisfied (read f) s ≡ satisfied d (g s)) (sym (read-write c)) same;
 }
 
 -- an answer says that nothing was found, and what was made
@@ -54,10 +54,10 @@ answered : {A : Type 0} (x : Found) (a v : A) → replied x a ≡ answers v → 
 answered sound a v e = (refl, cc)
 answered (refused k p) a v e = (cc, cc)
 
--- judging answers the verdict
-judged : (f : List ℕ) (x words : ℕ) (v : Verdict) → judging f x words ≡ answers v → verdict (read f) x ≡ v
-unfolding judging
-judged f x words v e = answered (refusals f orElse row8 x (2 ^ length (read f .labels)) orElse row9 (read f) words) (verdict (read f) x) v e .1
+-- an accepted file with work area enough is answered on the set of all states
+judged : (f : List ℕ) (words s : ℕ) → refusals f ≡ sound → row9 (read f) words ≡ sound → holds f words s ≡ satisfied (read f) s
+unfolding holds judging satisfied
+judged f words s ok enough = simp (ok, enough, lt-ltb _ _ (setOf-lt (length (read f .labels)) (λ s. true)))
 
 -- from a chain of rows that found nothing to each part of each test
 ruleset rows = (left-sound, right-sound, unless-sound, and-l, and-r)
@@ -72,7 +72,7 @@ module _ (f : List ℕ) (ok : refusals f ≡ sound) where
   -- ---- an accepted merge
   -- of k, the lower, and r
   merge-stands : (k r : ℕ) → k < r → r < length (c .labels) → T (alike (table c) k r) → Stands f (write (merge c k r)) (moved k r)
-  unfolding holds verdict
+  unfolding satisfied verdict
   merge-stands k r kr rn a =
       written-stands f (merge c k r) (moved k r) (merge-valid valid k r kr rn)
       (moved-in valid k r kr rn) (merge-holds valid k r kr rn a)
@@ -109,7 +109,7 @@ module _ (f : List ℕ) (ok : refusals f ≡ sound) where
   -- ---- an accepted rewrite
   rewrite-stands : (law j : ℕ) {l : List Triple} {g : ℕ → ℕ} → change (c .nodes) law j ≡ swap l g → length (rewrite c j (swap l g) .nodes) ≤ mostNodes
       → Stands f (write (rewrite c j (swap l g))) (λ s. s)
-  unfolding holds verdict rewrite
+  unfolding satisfied verdict rewrite
   rewrite-stands law j {l} {g} is few =
       written-stands f (rewrite c j (swap l g)) (λ s. s) (rewrite-valid valid law j is few) (λ s i. i)
       (λ s i. ap (λ x. has x s) (rewrite-holds valid law j is (allStates c) (setOf-lt (length (c .labels)) _)))
@@ -162,10 +162,8 @@ pub book-stands : (first : List ℕ) → refusals first ≡ sound → (l : List 
 book-stands first ok l = edits-stand first (begun first) l (record { accepted = ok; within = λ s i. i; same = λ s i. refl })
 
 -- over judging itself
-pub stands-judged : {first last : List ℕ} {g : ℕ → ℕ} → Stands first last g → (words words′ : ℕ) (v v′ : Verdict)
-    → judging first (allStates (read first)) words ≡ answers v
-    → judging last (allStates (read last)) words′ ≡ answers v′
-    → (s : ℕ) → s < length (read first .labels) → has (v .set) s ≡ has (v′ .set) (g s)
-unfolding holds
-stands-judged {first} {last} S words words′ v v′ e e′ s i =
-    rw (← judged first (allStates (read first)) words v e, ← judged last (allStates (read last)) words′ v′ e′) (S .same s i)
+pub stands-judged : {first last : List ℕ} {g : ℕ → ℕ} → refusals first ≡ sound → Stands first last g → (words words′ : ℕ)
+    → row9 (read first) words ≡ sound → row9 (read last) words′ ≡ sound
+    → (s : ℕ) → s < length (read first .labels) → holds first words s ≡ holds last words′ (g s)
+stands-judged {first} {last} {g} ok S words words′ e e′ s i =
+    judged first words s ok e ∙ S .same s i ∙ sym (judged last words′ (g s) (S .accepted) e′)

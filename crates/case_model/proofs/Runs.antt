@@ -34,4 +34,4 @@ pub demand-3 : (first : List ℕ) (l : List Call) (last : List ℕ) → refusals
 demand-3 first l last ok calls =
     let (file, told) = run (begun first) l first last refl calls in
     let S : Stands first last (book (begun first) (map edit l) .standing) = rw file at (book-stands first ok (map edit l)) in
-    record { file = file; told = told; accepted = S .accepted; within = S .within; verdicts = stands-judged S }
+    record { file = file; told = told; accepted = S .accepted; within = S .within; verdicts = stands-judged ok S }

@@ -33,7 +33,7 @@ module _ (c : Case) (j : ℕ) (l : List Triple) (g : ℕ → ℕ) (within : j < 
   unfolding rewrite
   length-new = simp (length-append, front, length-map, length-drop) (omega arith)
 
-  new-low : (i : ℕ) → i < j → at (rewrite c j (swap l g) .nodes) i ≡ renamed g (at (c .nodes) i)
+  pub new-low : (i : ℕ) → i < j → at (rewrite c j (swap l g) .nodes) i ≡ renamed g (at (c .nodes) i)
   unfolding rewrite
   new-low i h =
       List·getD-append (map (renamed g) (take j (c .nodes))) _ (0, 0, 0) i (rw front h)
@@ -50,7 +50,7 @@ module _ (c : Case) (j : ℕ) (l : List Triple) (g : ℕ → ℕ) (within : j < 
   pub new-mid : (i : ℕ) → i < length l → at (rewrite c j (swap l g) .nodes) (j + i) ≡ at l i
   new-mid i h = rest i ∙ List·getD-append l _ (0, 0, 0) i h
 
-  new-high : (i : ℕ) → j < i → at (rewrite c j (swap l g) .nodes) (i + length l - 1) ≡ renamed g (at (c .nodes) i)
+  pub new-high : (i : ℕ) → j < i → at (rewrite c j (swap l g) .nodes) (i + length l - 1) ≡ renamed g (at (c .nodes) i)
   new-high i h =
       let e : i + length l - 1 ≡ j + (length l + (i - suc j)) = omega arith in
       let q : suc j + (i - suc j) ≡ i = omega arith in

@@ -1,7 +1,7 @@
 -- Calls of merging and rewriting in a row, as their caller sees them. Document 01, "Edits in a row".
 -- What the entries promise of a call is stated here once, over the file that the call gets; the plain book is in Book.antt.
 use Prim.Native.Nat.{ℕ, _<_}
-use mathlib.Core.Bool.{true}
+use mathlib.Core.Bool.{Bool, true, false}
 use mathlib.Core.List.{List, [], _∷_, map}
 use mathlib.Core.Path.{_≡_}
 use lib.ListN.{length, take}
@@ -9,7 +9,7 @@ use Rattle.flc.specs.Sets.{has, setOf}
 use Rattle.case_model.specs.Case.{Case, read}
 use Rattle.case_model.specs.Rows.{sound, refusals}
 use Rattle.case_model.specs.Replies.{Reply, answers, refuses}
-use Rattle.case_model.specs.Judging.{Verdict, judging}
+use Rattle.case_model.specs.Judging.{Verdict, row9, judging}
 use Rattle.case_model.specs.Merging.{counted, written}
 use Rattle.case_model.specs.Book.{Edit, Book, begun, reply, turn, book}
 
@@ -43,18 +43,24 @@ unfoldable pub replies : Book → List Edit → List (Reply ℕ)
 replies b [] = []
 replies b (e ∷ l) = counted (reply (b .file) e) ∷ replies (turn b e) l
 
--- "judging's answer on the set of all states"
+-- the set of all states
 abbrev pub allStates : Case → ℕ
 allStates c = setOf (length (c .labels)) (λ s. true)
 
+abbrev pub inAnswer : Reply Verdict → ℕ → Bool
+inAnswer (answers v) s = has (v .set) s
+inAnswer (refuses k p) s = false
+
+-- "A state holds if it is in judging's answer on the set of all states", judged with so many words
+unfoldable pub holds : List ℕ → ℕ → ℕ → Bool
+holds f words s = inAnswer (judging f (allStates (read f)) words) s
+
 -- demand 3, "one claim about the whole list": file and replies are the plain book's, the last file is accepted, and a state of the first case holds
--- exactly if the state standing for it holds in the last, where judging has work area enough at both ends
+-- exactly if the state standing for it holds in the last, with work area enough at both ends
 pub record Kept (first : List ℕ) (l : List Call) (last : List ℕ) : Type 0 where
   pub file : book (begun first) (map edit l) .file ≡ last
   pub told : replies (begun first) (map edit l) ≡ map (λ (c : Call). c .told) l
   pub accepted : refusals last ≡ sound
   pub within : (s : ℕ) → s < length (read first .labels) → book (begun first) (map edit l) .standing s < length (read last .labels)
-  pub verdicts : (words words′ : ℕ) (v v′ : Verdict)
-      → judging first (allStates (read first)) words ≡ answers v
-      → judging last (allStates (read last)) words′ ≡ answers v′
-      → (s : ℕ) → s < length (read first .labels) → has (v .set) s ≡ has (v′ .set) (book (begun first) (map edit l) .standing s)
+  pub verdicts : (words words′ : ℕ) → row9 (read first) words ≡ sound → row9 (read last) words′ ≡ sound
+      → (s : ℕ) → s < length (read first .labels) → holds first words s ≡ holds last words′ (book (begun first) (map edit l) .standing s)
