@@ -1,6 +1,6 @@
 -- Least and greatest fixed points of a map on functions, as one by the flag: they are the bounds that they should be, and fixed points;
--- every approximant is below them, and where the approximants stand still they have come to them.
-use mathlib.Core.Path.{_≡_, sym, ap, _∙_, subst}
+-- the iterates of the map, from anything that they rise from, are below them, and where they stand still they have come to them.
+use mathlib.Core.Path.{_≡_, refl, sym, ap, _∙_, subst, fun-ext}
 use mathlib.Core.Bool.{Bool, true, false, not}
 use Prim.Native.Nat.{ℕ, zero, suc, _^_, _<_}
 use lib.Dec.{T}
@@ -57,7 +57,7 @@ fixed-small true n F x = setOf-lt n _
 fixed-small false n F x = setOf-lt n _
 
 -- nothing is in an approximant 0
-pub none-in : (d : Bool) (n s : ℕ) → s < n → In d (setOf n (λ s. not d)) s → ⊥
+none-in : (d : Bool) (n s : ℕ) → s < n → In d (setOf n (λ s. not d)) s → ⊥
 none-in true n s k t = subst T (has-setOf n _ s k) t
 none-in false n s k t = subst (λ b. T (not b)) (has-setOf n _ s k) t
 
@@ -103,28 +103,68 @@ module _ (d : Bool) {n : ℕ} {F : Fun → Fun} (S : Steady n F) where
       below-antisym d good fixed-good down
       (fixed-below (F (fixed d n F)) good (steady-rises d S (F (fixed d n F)) (fixed d n F) good fixed-good down))
 
-  -- ---- approximants
+-- ---- iterates
+unfoldable pub iterate : (Fun → Fun) → Fun → ℕ → Fun
+iterate F x zero = x
+iterate F x (suc k) = F (iterate F x k)
 
+-- what the iterates may begin with, to rise to the fixed point
+pub record Rising (d : Bool) (n : ℕ) (F : Fun → Fun) (x : Fun) : Type 0 where
+  pub good : Good n x
+  pub first : Below d n x (F x)
+  pub low : Below d n x (fixed d n F)
+
+module _ (d : Bool) {n : ℕ} {F : Fun → Fun} (S : Steady n F) {x : Fun} (R : Rising d n F x) where
   -- they are monotone
-  pub approx-good : (k : ℕ) → Good n (approximant d n F k)
-  unfolding approximant
-  approx-good zero = record { small = λ x i. setOf-lt n _; mono = λ x y i j u s k t. t }
-  approx-good (suc k) = S .good (approximant d n F k) (approx-good k)
+  pub iterate-good : (k : ℕ) → Good n (iterate F x k)
+  unfolding iterate
+  iterate-good zero = R .good
+  iterate-good (suc k) = S .good (iterate F x k) (iterate-good k)
 
-  -- every approximant is below whatever F takes below itself
-  pub approx-below : (k : ℕ) (g : Fun) → Good n g → Below d n (F g) g → Below d n (approximant d n F k) g
-  unfolding approximant
-  approx-below zero g G h = λ x i s k t. absurd (none-in d n s k t)
-  approx-below (suc k) g G h =
-      below-trans d n _ (F g) g (steady-rises d S (approximant d n F k) g (approx-good k) G (approx-below k g G h)) h
+  -- each is below the next
+  pub iterate-rises : (k : ℕ) → Below d n (iterate F x k) (iterate F x (suc k))
+  unfolding iterate
+  iterate-rises zero = R .first
+  iterate-rises (suc k) = steady-rises d S (iterate F x k) (iterate F x (suc k)) (iterate-good k) (iterate-good (suc k)) (iterate-rises k)
 
-  -- where the approximants stand still they are the fixed point
-  pub approx-fixed : (k : ℕ) → Agree n (approximant d n F k) (approximant d n F (suc k)) → Agree n (fixed d n F) (approximant d n F k)
-  unfolding approximant
-  approx-fixed k e =
-      below-antisym d fixed-good (approx-good k)
-      (fixed-below (approximant d n F k) (approx-good k) (agree-below d n _ _ (λ x i. sym (e x i))))
-      (fixed-above (approximant d n F k) (approx-below k))
+  -- and below the fixed point
+  iterate-low : (k : ℕ) → Below d n (iterate F x k) (fixed d n F)
+  unfolding iterate
+  iterate-low zero = R .low
+  iterate-low (suc k) =
+      below-trans d n _ (F (fixed d n F)) (fixed d n F)
+      (steady-rises d S (iterate F x k) (fixed d n F) (iterate-good k) (fixed-good d S) (iterate-low k))
+      (agree-below d n _ _ (fixed-fixed d S))
+
+  -- where they stand still they are the fixed point
+  pub iterate-fixed : (k : ℕ) → Agree n (iterate F x k) (iterate F x (suc k)) → Agree n (fixed d n F) (iterate F x k)
+  unfolding iterate
+  iterate-fixed k e =
+      below-antisym d (fixed-good d S) (iterate-good k)
+      (fixed-below d S (iterate F x k) (iterate-good k) (agree-below d n _ _ (λ x i. sym (e x i))))
+      (iterate-low k)
+
+-- the approximants are the iterates of approximant 0
+pub approx-iterate : (d : Bool) (n : ℕ) (F : Fun → Fun) → iterate F (approximant d n F zero) ≡ approximant d n F
+unfolding iterate approximant
+approx-iterate d n F = fun-ext go
+  where
+    go : (k : ℕ) → iterate F (approximant d n F zero) k ≡ approximant d n F k
+    go zero = refl
+    go (suc k) = ap F (go k)
+
+-- which is below everything
+pub approx-rising : (d : Bool) {n : ℕ} {F : Fun → Fun} → Rising d n F (approximant d n F zero)
+unfolding approximant
+approx-rising d {n} = record {
+  good = record { small = λ x i. setOf-lt n _; mono = λ x y i j u s k t. t };
+  first = λ x i s k t. absurd (none-in d n s k t);
+  low = λ x i s k t. absurd (none-in d n s k t);
+}
+
+-- so they are monotone
+pub approx-good : (d : Bool) {n : ℕ} {F : Fun → Fun} → Steady n F → (k : ℕ) → Good n (approximant d n F k)
+approx-good d {n} {F} S k = subst (λ A. Good n (A k)) (approx-iterate d n F) (iterate-good d S (approx-rising d) k)
 
 -- a greater map has a greater fixed point: in the flag's order
 fixed-up : (d : Bool) {n : ℕ} {F G : Fun → Fun} → Steady n F → Steady n G

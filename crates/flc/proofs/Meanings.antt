@@ -1,6 +1,6 @@
 -- Every meaning is a monotone function and monotone in its environment; what μ and ν mean, over all functions of the language;
 -- only the free variables matter; or and and on masks. By induction on the rule, with one case for both binders.
-use mathlib.Core.Path.{_≡_, refl, sym, ap, ap₂, _∙_, subst⁻¹, fun-ext}
+use mathlib.Core.Path.{_≡_, refl, sym, ap, ap₂, _∙_, subst⁻¹, subst₂, fun-ext}
 use mathlib.Core.Logic.{_↔_}
 use mathlib.Core.Bool.{Bool, true, false, not, cond}
 use Prim.Native.Nat.{ℕ, _^_, _<_}
@@ -12,8 +12,8 @@ use Rattle.flc.specs.Functions.{Fun}
 use Rattle.flc.specs.Formula.{Table, Atom, top, bottom, tau, prop, nprop, dia, box, Op, or, and, chop, Formula, atom, var, op, fix, meanAtom, Env, put, mean, none, free}
 use Rattle.flc.proofs.Tests.{Rises, both-rises, either-rises, forAll-rises, forSome-rises, both-mk, either-left, either-right, implies-use, implies-mk}
 use Rattle.flc.proofs.Masks.{setOf-lt, or-setOf, and-setOf}
-use Rattle.flc.proofs.Order.{Below, Agree, Good, below-flip, below-antisym, agree-below, good-agree, setOf-sub}
-use Rattle.flc.proofs.FixedPoints.{fixed, Steady, fixed-use, fixed-mk, fixed-good, fixed-below, fixed-fixed, fixed-rises}
+use Rattle.flc.proofs.Order.{Below, Agree, Good, below-flip, below-antisym, below-trans, agree-below, good-agree, setOf-sub}
+use Rattle.flc.proofs.FixedPoints.{fixed, Steady, Rising, fixed-use, fixed-mk, fixed-good, fixed-below, fixed-fixed, fixed-rises}
 
 -- ---- the binary operators and the binders, each as one
 
@@ -148,6 +148,27 @@ mean-small L p ρ R = mean-nice L p .good ρ R .small
 -- what a binder's fixed point is taken of
 pub mean-steady : (L : Table) (p : Formula) (v : ℕ) (ρ : Env) → GoodEnv (L .n) ρ → Steady (L .n) (λ f. mean L p (put ρ v f))
 mean-steady L p = body-steady (mean-nice L p)
+
+-- a meaning rises with its environment in the order turned round too
+mean-rises : (d : Bool) (L : Table) (p : Formula) (ρ σ : Env) → GoodEnv (L .n) ρ → GoodEnv (L .n) σ
+    → ((v : ℕ) → Below d (L .n) (ρ v) (σ v)) → Below d (L .n) (mean L p ρ) (mean L p σ)
+mean-rises true L p ρ σ R S h = mean-nice L p .rises ρ σ R S h
+mean-rises false L p ρ σ R S h =
+    below-flip true (L .n) _ _ (mean-nice L p .rises σ ρ S R (λ v. below-flip false (L .n) (ρ v) (σ v) (h v)))
+
+-- from what a binder was in an environment below, the iterates of its body rise
+pub mean-rising : (d : Bool) (L : Table) (v : ℕ) (p : Formula) (ρ σ : Env) → GoodEnv (L .n) ρ → GoodEnv (L .n) σ
+    → ((v : ℕ) → Below d (L .n) (ρ v) (σ v)) → Rising d (L .n) (λ f. mean L p (put σ v f)) (mean L (fix d v p) ρ)
+mean-rising d L v p ρ σ R S h =
+    let P : Steady (L .n) (λ f. mean L p (put ρ v f)) = mean-steady L p v ρ R in
+    let G : Good (L .n) (fixed d (L .n) (λ f. mean L p (put ρ v f))) = fixed-good d P in
+    subst⁻¹ (Rising d (L .n) (λ f. mean L p (put σ v f))) (mean-fix L d v p ρ) (record {
+      good = G;
+      first = below-trans d (L .n) _ (mean L p (put ρ v (fixed d (L .n) (λ f. mean L p (put ρ v f))))) _
+          (agree-below d (L .n) _ _ (λ x i. sym (fixed-fixed d P x i)))
+          (mean-rises d L p _ _ (put-good ρ v R G) (put-good σ v S G) (λ w. put-two (Below d (L .n)) ρ σ v w _ _ (λ x i s k u. u) (λ t. h w)));
+      low = subst₂ (Below d (L .n)) (mean-fix L d v p ρ) (mean-fix L d v p σ) (mean-rises d L (fix d v p) ρ σ R S h);
+    })
 
 -- ---- what the binders say, over all functions of the language
 module _ (L : Table) (p : Formula) (v : ℕ) (ρ : Env) (R : GoodEnv (L .n) ρ) where

@@ -1,6 +1,6 @@
--- The approximants stand still after n * 2 ^ n rounds at the latest, so that one of them is the fixed point; rounds is the first.
+-- Iterates that rise stand still after n * 2 ^ n rounds at the latest, and so do approximants, so that one of them is the fixed point; rounds is the first.
 -- Each round before that adds to the weight.
-use mathlib.Core.Path.{_≡_}
+use mathlib.Core.Path.{_≡_, subst}
 use mathlib.Core.Bool.{Bool}
 use mathlib.Core.Logic.{_⊎_, inl, inr}
 use Prim.Native.Nat.{ℕ, zero, suc, _*_, _^_, _≤_, _<_, zero-le}
@@ -11,48 +11,54 @@ use Rattle.flc.specs.Functions.{Fun, agree, approximant, rounds}
 use Rattle.flc.proofs.Tests.{first-le, first-passes, first-least}
 use Rattle.flc.proofs.Order.{Below, Agree, below-antisym, agree-use, agree-mk}
 use Rattle.flc.proofs.Weight.{weight, weight-le, weight-max, weight-eq}
-use Rattle.flc.proofs.FixedPoints.{fixed, Steady, steady-rises, none-in, approx-good, approx-fixed}
+use Rattle.flc.proofs.FixedPoints.{fixed, Steady, steady-rises, iterate, Rising, iterate-good, iterate-rises, iterate-fixed, approx-iterate, approx-rising}
 
+-- ---- iterates that rise
+module _ (d : Bool) {n : ℕ} {F : Fun → Fun} (S : Steady n F) {x : Fun} (R : Rising d n F x) where
+  abbrev I : ℕ → Fun
+  I = iterate F x
+
+  -- the next is below it too, and then so on
+  abbrev Still : ℕ → Type 0
+  Still k = Below d n (I (suc k)) (I k)
+
+  still-suc : (k : ℕ) → Still k → Still (suc k)
+  unfolding iterate
+  still-suc k h = steady-rises d S (I (suc k)) (I k) (iterate-good d S R (suc k)) (iterate-good d S R k) h
+
+  -- by round k they stand still, or each round has added to the weight
+  look : (k : ℕ) → ((j : ℕ) × (j < k) × Still j) ⊎ (k ≤ weight d n (I k))
+  look zero = inr (omega arith)
+  look (suc k) = go (look k) (ℕ-discrete (weight d n (I k)) (weight d n (I (suc k))))
+    where
+      go : ((j : ℕ) × (j < k) × Still j) ⊎ (k ≤ weight d n (I k)) → Dec (weight d n (I k) ≡ weight d n (I (suc k)))
+          → ((j : ℕ) × (j < suc k) × Still j) ⊎ (suc k ≤ weight d n (I (suc k)))
+      go (inl w) e = inl (w .0, omega arith, w .2)
+      go (inr h) (yes e) = inl (k, omega arith, weight-eq d n (I k) (I (suc k)) (iterate-rises d S R k) e)
+      go (inr h) (no e) = inr (omega (arith, weight-le d n (I k) (I (suc k)) (iterate-rises d S R k)))
+
+  -- a weight above n * 2 ^ n there is not
+  pub settled : (k : ℕ) → n * 2 ^ n ≤ k → Agree n (iterate F x k) (iterate F x (suc k))
+  settled k l =
+      below-antisym d (iterate-good d S R k) (iterate-good d S R (suc k)) (iterate-rises d S R k) (go (look (suc (n * 2 ^ n))))
+    where
+      go : ((j : ℕ) × (j < suc (n * 2 ^ n)) × Still j) ⊎ (suc (n * 2 ^ n) ≤ weight d n (I (suc (n * 2 ^ n)))) → Still k
+      go (inl w) = le-ind (λ m. Still m) (w .2) (λ m k h. still-suc m h) k (le-trans (le-of-suc-le-suc (w .1)) l)
+      go (inr h) = absurd (omega (arith, weight-max d n (I (suc (n * 2 ^ n)))))
+
+-- ---- approximants
 module _ (d : Bool) {n : ℕ} {F : Fun → Fun} (S : Steady n F) where
   abbrev A : ℕ → Fun
   A = approximant d n F
 
-  -- each is below the next
-  rise : (k : ℕ) → Below d n (A k) (A (suc k))
-  unfolding approximant
-  rise zero = λ x i s k t. absurd (none-in d n s k t)
-  rise (suc k) = steady-rises d S (A k) (A (suc k)) (approx-good d S k) (approx-good d S (suc k)) (rise k)
+  stand : (k : ℕ) → n * 2 ^ n ≤ k → Agree n (A k) (A (suc k))
+  stand k l = subst (λ A. Agree n (A k) (A (suc k))) (approx-iterate d n F) (settled d S (approx-rising d) k l)
 
-  -- the next is below it too, and then so on
-  abbrev Still : ℕ → Type 0
-  Still k = Below d n (A (suc k)) (A k)
-
-  still-suc : (k : ℕ) → Still k → Still (suc k)
-  unfolding approximant
-  still-suc k h = steady-rises d S (A (suc k)) (A k) (approx-good d S (suc k)) (approx-good d S k) h
-
-  -- by round k they stand still, or each round has added to the weight
-  look : (k : ℕ) → ((j : ℕ) × (j < k) × Still j) ⊎ (k ≤ weight d n (A k))
-  look zero = inr (omega arith)
-  look (suc k) = go (look k) (ℕ-discrete (weight d n (A k)) (weight d n (A (suc k))))
-    where
-      go : ((j : ℕ) × (j < k) × Still j) ⊎ (k ≤ weight d n (A k)) → Dec (weight d n (A k) ≡ weight d n (A (suc k)))
-          → ((j : ℕ) × (j < suc k) × Still j) ⊎ (suc k ≤ weight d n (A (suc k)))
-      go (inl w) e = inl (w .0, omega arith, w .2)
-      go (inr h) (yes e) = inl (k, omega arith, weight-eq d n (A k) (A (suc k)) (rise k) e)
-      go (inr h) (no e) = inr (omega (arith, weight-le d n (A k) (A (suc k)) (rise k)))
-
-  -- a weight above n * 2 ^ n there is not
-  pub settled : (k : ℕ) → n * 2 ^ n ≤ k → Agree n (approximant d n F k) (approximant d n F (suc k))
-  settled k l = below-antisym d (approx-good d S k) (approx-good d S (suc k)) (rise k) (go (look (suc (n * 2 ^ n))))
-    where
-      go : ((j : ℕ) × (j < suc (n * 2 ^ n)) × Still j) ⊎ (suc (n * 2 ^ n) ≤ weight d n (A (suc (n * 2 ^ n)))) → Still k
-      go (inl w) = le-ind (λ m. Still m) (w .2) (λ m k h. still-suc m h) k (le-trans (le-of-suc-le-suc (w .1)) l)
-      go (inr h) = absurd (omega (arith, weight-max d n (A (suc (n * 2 ^ n)))))
-
-  -- the fixed point is any late approximant
+  -- the fixed point is any late one
   pub fixed-late : (k : ℕ) → n * 2 ^ n ≤ k → Agree n (fixed d n F) (approximant d n F k)
-  fixed-late k l = approx-fixed d S k (settled k l)
+  fixed-late k l =
+      subst (λ A. Agree n (fixed d n F) (A k)) (approx-iterate d n F)
+      (iterate-fixed d S (approx-rising d) k (settled d S (approx-rising d) k l))
 
   -- ---- rounds is the first at which they stand still
 
@@ -66,7 +72,7 @@ module _ (d : Bool) {n : ℕ} {F : Fun → Fun} (S : Steady n F) where
   unfolding rounds
   rounds-stand =
       agree-use n _ _ (first-passes (λ k. agree n (A k) (A (suc k))) 0 (n * 2 ^ n) (n * 2 ^ n) zero-le (omega arith)
-      (agree-mk n _ _ (settled (n * 2 ^ n) (omega arith))))
+      (agree-mk n _ _ (stand (n * 2 ^ n) (omega arith))))
 
   -- and not before
   pub rounds-first : (k : ℕ) → k < rounds d n F → Agree n (approximant d n F k) (approximant d n F (suc k)) → ⊥

@@ -3,7 +3,7 @@
 use Prim.Native.Nat.{ℕ, _+_, _*_, _^_, _≤_, _<_}
 use mathlib.Core.List.{List}
 use mathlib.Core.Path.{_≡_, refl, sym, ap, _∙_, subst}
-use native.Mathlib.Nat.{mul-assoc}
+use native.Mathlib.Nat.{not-suc-le-zero}
 use native.Mathlib.Omega.{arith}
 use borrow.Author.Tests.{lt-ltb, le-ltb, le-leb, lt-leb}
 use lib.Dec.{T, eqb→eq}
@@ -29,9 +29,8 @@ use Rattle.case_model.specs.Replies.{answers, refuses, replied, Counts, counts,
 use Rattle.case_model.specs.Judging.{verdict, Verdict, row9, judging}
 use Rattle.case_model.proofs.Nodes.{node-lower}
 use Rattle.case_model.proofs.Valid.{Valid, accepted-valid}
-use Rattle.judge.specs.declared.plan.Plan.{Plan}
 use Rattle.judge.specs.Tables.{Filled}
-use Rattle.judge.specs.Plans.{Planned, Ready, Refreshed, Computable, Computed, Right, Matches, Asked, roundsIn}
+use Rattle.judge.specs.Plans.{Plan, Planned, Ready, Refreshed, Computable, Computed, Right, Matches, Asked, roundsIn}
 use Rattle.judge.proofs.Modal.{has-none}
 use Rattle.judge.proofs.Rightness.{size-is}
 use Rattle.judge.proofs.Approximating.{has-one}
@@ -72,7 +71,7 @@ module _ {c : Case} {p : Plan} {x : ℕ} (w : List ℕ) (A : Asked c p x (length
     active = λ v l t. idle v l t;
   }
 
-  pub root-computable : {v u : List ℕ} → length v ≡ length w → Refreshed c p v u (c .root) 0 65536 → Computable c p u (c .root) 65536
+  pub root-computable : {v u : List ℕ} → length v ≡ length w → Refreshed c p v u (c .root) 0 65536 0 → Computable c p u (c .root) 65536
   root-computable {v} {u} e R = record {
     ready = record {
       planned = A .planned;
@@ -85,25 +84,25 @@ module _ {c : Case} {p : Plan} {x : ℕ} (w : List ℕ) (A : Asked c p x (length
     within = λ s k t. subst (λ m. T (has m s)) (A .planned .scoped .root) t;
   }
 
-  pub root-answer : {v u z : List ℕ} {r y : ℕ} → Refreshed c p v u (c .root) 0 65536 → Computed c p u z (c .root) 65536 r
+  pub root-answer : {v u z : List ℕ} {r y : ℕ} → Refreshed c p v u (c .root) 0 65536 0 → Computed c p u z (c .root) 65536 0 r
       → y ≡ getD z (c .root * p .size + x) 0 → record { set = y; rounds = r } ≡ verdict c x
   unfolding verdict rule
   root-answer {v} {u} {z} {r} {y} R C e =
       let low : Right c p none 0 v (c .root) = λ i l h. absurd (subst T (has-none 16) (h 16 (omega arith) (A .planned .scoped .mark i (omega (arith, here))))) in
       let idle-matches : (w : List ℕ) → Matches c p none 65536 w = λ w v l t. idle v l t in
-      let (right, q) = C .right none (none-good (table c .n)) (idle-matches u) (R .right none (none-good (table c .n)) (idle-matches v) low) in
+      let (right, q) = C .right none (none-good (table c .n)) (idle-matches u) (R .right none (none-good (table c .n)) (idle-matches v) low (λ g. absurd (not-suc-le-zero g))) (λ g. absurd (not-suc-le-zero g)) in
       let s = e ∙ right (c .root) (omega arith) (λ s k t. subst (λ m. T (has m s)) (A .planned .scoped .root) t) x (rw (size-is (A .planned)) at (A .inside)) in
-      let g = q ∙ rounds-at (table c) (nodeAt c) (c .root) (node-lower (A .planned .valid) (c .root) here) in
+      let g = q refl ∙ rounds-at (table c) (nodeAt c) (c .root) (node-lower (A .planned .valid) (c .root) here) in
       λ i. record { set = s i; rounds = g i }
 
 -- what the two rows that passed say of the plan
-pub asked : {c : Case} {p : Plan} {x words : ℕ} → Planned c p → x < 2 ^ length (c .labels) → 2 * length (c .nodes) * 2 ^ length (c .labels) ≤ words → Asked c p x words
+pub asked : {c : Case} {p : Plan} {x words : ℕ} → Planned c p → x < 2 ^ length (c .labels) → length (c .nodes) * 2 ^ length (c .labels) ≤ words → Asked c p x words
 unfolding table
 asked {c} {p} {x} {words} P h l =
     let e = size-is P in
     record {
       planned = P;
-      room = omega (arith, ap (λ k. length (c .nodes) * k) e, mul-assoc 2 (length (c .nodes)) (2 ^ length (c .labels)));
+      room = rw e l;
       inside = rw e h;
     }
 

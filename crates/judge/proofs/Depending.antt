@@ -21,9 +21,9 @@ use Rattle.case_model.proofs.NodeKinds.{Kind, constant, variable, pair, binder,
 use Rattle.case_model.proofs.Frees.{masks, masks-free, masks-closed}
 use Rattle.case_model.proofs.Valid.{Valid}
 use Rattle.case_model.proofs.Nodes.{node-lower}
-use Rattle.judge.specs.declared.plan.Plan.{Plan}
-use Rattle.judge.specs.Plans.{scope, Within, Scoped}
+use Rattle.judge.specs.Plans.{Plan, scope, Within, Scoped}
 use Rattle.judge.specs.Reaching.{unreached}
+use Rattle.judge.specs.Tables.{scopesFrom}
 use Rattle.judge.proofs.Reached.{Marks, Turns, turns, set-marks, pair-low, body-low, free-low, scope-use, scope-low, scope-out}
 
 -- ---- the triple of a node that names others
@@ -33,11 +33,11 @@ record Pair (x : Triple) (a b : ℕ) : Type 0 where
   first : x .1 ≡ a
   second : x .2 ≡ b
 
-record Binder (x : Triple) (v b : ℕ) : Type 0 where
-  from : 11 ≤ x .0
-  to : x .0 ≤ 12
-  first : x .1 ≡ v
-  second : x .2 ≡ b
+pub record Binder (x : Triple) (v b : ℕ) : Type 0 where
+  pub from : 11 ≤ x .0
+  pub to : x .0 ≤ 12
+  pub first : x .1 ≡ v
+  pub second : x .2 ≡ b
 
 pair-of : (c : Case) (j : ℕ) {o : Op} {a b : ℕ} → nodeAt c j ≡ two o a b → Pair (at (c .nodes) j) a b
 unfolding nodeAt
@@ -53,7 +53,7 @@ pair-of c j {o} {a} {b} e = go (nodeOf x) (kind x) e
     go _ (binder d g h) e = absurd (let z : _≡_ {A = ℕ} 0 1 = cc in omega arith)
     go _ (beyond g) e = absurd (let z : _≡_ {A = ℕ} 0 1 = cc in omega arith)
 
-binder-of : (c : Case) (j : ℕ) {d : Bool} {v b : ℕ} → nodeAt c j ≡ bind d v b → Binder (at (c .nodes) j) v b
+pub binder-of : (c : Case) (j : ℕ) {d : Bool} {v b : ℕ} → nodeAt c j ≡ bind d v b → Binder (at (c .nodes) j) v b
 unfolding nodeAt
 binder-of c j {d} {v} {b} e = go (nodeOf (at (c .nodes) j)) (kind (at (c .nodes) j)) e
   where
@@ -92,27 +92,42 @@ module _ {c : Case} (valid : Valid c) where
         absurd (omega arith)
   ]
 
-  module _ (p : Plan) (f : p .frees ≡ masks (c .nodes) (length (c .nodes))) (u : p .unreached ≡ unreached c) where
-    mask : (j : ℕ) → j < length (c .nodes) → (getD (p .frees) j 0 < 65536) × ((v : ℕ) → v < 16 → has (getD (p .frees) j 0) v ≡ free v (formulaAt (nodeAt c) j))
-    mask j h = subst (λ t. (getD t j 0 < 65536) × ((v : ℕ) → v < 16 → has (getD t j 0) v ≡ free v (formulaAt (nodeAt c) j))) (sym f)
-        (masks-free c (length (c .nodes)) (valid .most) j h)
+  pub mark-most : (j : ℕ) → j < 64 → getD (unreached c) j 0 ≤ 131072
+  mark-most j h = most _ (U .marks begin-marks j h)
+    where
+      most : (u : ℕ) → (u ≡ 0) ⊎ (u ≡ 131072) → u ≤ 131072
+      most u (inl e) = omega arith
+      most u (inr e) = omega arith
 
-    mark : (j : ℕ) → j < length (c .nodes) → (getD (p .unreached) j 0 ≡ 0) ⊎ (getD (p .unreached) j 0 ≡ 131072)
-    mark j h = rw u (U .marks begin-marks j (omega (arith, valid .most)))
+  abbrev frees : List ℕ
+  frees = masks (c .nodes) (length (c .nodes))
+
+  module _ (p : Plan) (q : (j : ℕ) → j < 64 → scope p j ≡ scopesFrom frees (unreached c) j) where
+    mask : (j : ℕ) → j < length (c .nodes) → (getD frees j 0 < 65536) × ((v : ℕ) → v < 16 → has (getD frees j 0) v ≡ free v (formulaAt (nodeAt c) j))
+    mask j h = masks-free c (length (c .nodes)) (valid .most) j h
+
+    mark : (j : ℕ) → j < length (c .nodes) → (getD (unreached c) j 0 ≡ 0) ⊎ (getD (unreached c) j 0 ≡ 131072)
+    mark j h = U .marks begin-marks j (omega (arith, valid .most))
+
+    is : (j : ℕ) → j < length (c .nodes) → scope p j ≡ scopesFrom frees (unreached c) j
+    is j l = q j (omega (arith, valid .most))
+
+    into : (j s : ℕ) → j < length (c .nodes) → T (has (scopesFrom frees (unreached c) j) s) → T (has (scope p j) s)
+    into j s l t = subst (λ x. T (has x s)) (sym (is j l)) t
 
     -- a node that is named: its free variables pass a test, and it is reached if the node is
     named-in : (i j : ℕ) → i < length (c .nodes) → j < length (c .nodes) → (Q : ℕ → Bool)
         → ((s : ℕ) → s < 16 → T (free s (formulaAt (nodeAt c) i)) → T (either (has (scope p j) s) (Q s)))
-        → (getD (p .unreached) j 0 ≡ 0 → getD (p .unreached) i 0 ≡ 0)
+        → (getD (unreached c) j 0 ≡ 0 → getD (unreached c) i 0 ≡ 0)
         → (s : ℕ) → s < 18 → T (has (scope p i) s) → T (either (has (scope p j) s) (Q s))
     named-in i j h l Q a r s k t =
-        scope-use (getD (p .frees) i 0) (getD (p .unreached) i 0) (mask i h .0) (mark i h) s k t
+        scope-use (getD frees i 0) (getD (unreached c) i 0) (mask i h .0) (mark i h) s k (subst (λ x. T (has x s)) (is i h) t)
         (λ g t. a s g (subst T (mask i h .1 s g) t))
-        (λ e. either-left _ _ (scope-low (getD (p .frees) j 0) (getD (p .unreached) j 0) (mask j l .0) (mark j l) s (either-left _ _ (rw (eq-eqb s 16 e) tt))))
-        (λ e n. either-left _ _ (rw e (scope-out (getD (p .frees) j 0) (getD (p .unreached) j 0) (mask j l .0) (mark j l) (λ z. n (r z)))))
+        (λ e. either-left _ _ (into j s l (scope-low (getD frees j 0) (getD (unreached c) j 0) (mask j l .0) (mark j l) s (either-left _ _ (rw (eq-eqb s 16 e) tt)))))
+        (λ e n. either-left _ _ (into j s l (rw e (scope-out (getD frees j 0) (getD (unreached c) j 0) (mask j l .0) (mark j l) (λ z. n (r z))))))
 
     free-in : (j s : ℕ) → j < length (c .nodes) → s < 16 → T (free s (formulaAt (nodeAt c) j)) → T (has (scope p j) s)
-    free-in j s l g t = scope-low (getD (p .frees) j 0) (getD (p .unreached) j 0) (mask j l .0) (mark j l) s (either-right _ _ (subst T (sym (mask j l .1 s g)) t))
+    free-in j s l g t = into j s l (scope-low (getD frees j 0) (getD (unreached c) j 0) (mask j l .0) (mark j l) s (either-right _ _ (subst T (sym (mask j l .1 s g)) t)))
 
     unfolded : (j : ℕ) → j < length (c .nodes) → (n : Node) → nodeAt c j ≡ n → formulaAt (nodeAt c) j ≡ tree n (formulaAt (nodeAt c))
     unfolded j l n e = formulaAt-node (nodeAt c) j (node-lower valid j l) ∙ ap (λ n. tree n (formulaAt (nodeAt c))) e
@@ -123,13 +138,13 @@ module _ {c : Case} (valid : Valid c) where
         let P = pair-of c j e in
         let (g, h) = pair-low valid j l (P .from) (P .to) in
         let q = unfolded j l (two o a b) e in
-        let low : (getD (p .unreached) j 0 ≡ 0) → j < suc (c .root) = λ z. up-to-root j (omega (arith, valid .most)) (ap (λ t. getD t j 0) (sym u) ∙ z) in (
+        let low : (getD (unreached c) j 0 ≡ 0) → j < suc (c .root) = λ z. up-to-root j (omega (arith, valid .most)) z in (
           (λ s k t. plain _ (named-in a j (omega (arith, P .first)) l (λ s. false)
               (λ s i t. either-left _ _ (free-in j s l i (subst (λ φ. T (free s φ)) (sym q) (either-left _ _ t))))
-              (λ z. ap (λ t. getD t a 0) u ∙ ap (λ i. getD (unreached c) i 0) (sym (P .first)) ∙ U .left j (low z) (P .from) (P .to) (ap (λ t. getD t j 0) (sym u) ∙ z)) s k t)),
+              (λ z. ap (λ i. getD (unreached c) i 0) (sym (P .first)) ∙ U .left j (low z) (P .from) (P .to) z) s k t)),
           (λ s k t. plain _ (named-in b j (omega (arith, P .second)) l (λ s. false)
               (λ s i t. either-left _ _ (free-in j s l i (subst (λ φ. T (free s φ)) (sym q) (either-right _ _ t))))
-              (λ z. ap (λ t. getD t b 0) u ∙ ap (λ i. getD (unreached c) i 0) (sym (P .second)) ∙ U .right j (low z) (P .from) (omega (arith, P .to)) (ap (λ t. getD t j 0) (sym u) ∙ z)) s k t)),
+              (λ z. ap (λ i. getD (unreached c) i 0) (sym (P .second)) ∙ U .right j (low z) (P .from) (omega (arith, P .to)) z) s k t)),
         )
 
     bind-in : (j : ℕ) {d : Bool} {v b : ℕ} → j < length (c .nodes) → nodeAt c j ≡ bind d v b
@@ -139,18 +154,18 @@ module _ {c : Case} (valid : Valid c) where
         let P = binder-of c j e in
         let (g, h) = body-low valid j l (P .from) in
         let q = unfolded j l (bind d v b) e in
-        let low : (getD (p .unreached) j 0 ≡ 0) → j < suc (c .root) = λ z. up-to-root j (omega (arith, valid .most)) (ap (λ t. getD t j 0) (sym u) ∙ z) in
+        let low : (getD (unreached c) j 0 ≡ 0) → j < suc (c .root) = λ z. up-to-root j (omega (arith, valid .most)) z in
         named-in b j (omega (arith, P .second)) l (λ s. eqb s v)
         (λ s i t. elim (ℕ-discrete s v) [
           | yes z ↦ either-right _ _ (rw (eq-eqb s v z) tt)
           | no z ↦ either-left _ _ (free-in j s l i (subst (λ φ. T (free s φ)) (sym q) (both-mk (not (eqb s v)) _ (rw (ne-eqb s v z) tt) t)))
         ])
-        (λ z. ap (λ t. getD t b 0) u ∙ ap (λ i. getD (unreached c) i 0) (sym (P .second)) ∙ U .right j (low z) (omega (arith, P .from)) (P .to) (ap (λ t. getD t j 0) (sym u) ∙ z))
+        (λ z. ap (λ i. getD (unreached c) i 0) (sym (P .second)) ∙ U .right j (low z) (omega (arith, P .from)) (P .to) z)
 
     pub scoped : Scoped c p
     scoped = record {
-      small = λ j l. let (a, b) = mask j l in bound (getD (p .frees) j 0) (getD (p .unreached) j 0) a (mark j l);
-      mark = λ j l. scope-low (getD (p .frees) j 0) (getD (p .unreached) j 0) (mask j l .0) (mark j l) 16 (either-left (eqb 16 16) _ tt);
+      small = λ j l. subst (λ x. x < 2 ^ 18) (sym (is j l)) (bound (getD frees j 0) (getD (unreached c) j 0) (mask j l .0) (mark j l));
+      mark = λ j l. into j 16 l (scope-low (getD frees j 0) (getD (unreached c) j 0) (mask j l .0) (mark j l) 16 (either-left (eqb 16 16) _ tt));
       frees = λ j v l t. elim (decLt v 16) [
         | yes h ↦ (h, free-in j v l h t)
         | no h ↦ absurd (free-low valid v (omega arith) (suc j) j (omega arith) l t)
@@ -160,7 +175,7 @@ module _ {c : Case} (valid : Valid c) where
       root =
           let z = eqb-true (getD (masks (c .nodes) (length (c .nodes))) (c .root) 0) 0 (masks-closed c (valid .root) (valid .most) ∙ valid .closed) in
           let y = U .keeps (c .root) (getD-set-same (replicate 64 131072) (c .root) 0 0 (rw (length-replicate {A = ℕ} 64 131072) (omega (arith, valid .root, valid .most)))) in
-          omega (arith, ap (λ t. getD t (c .root) 0) f, ap (λ t. getD t (c .root) 0) u);
+          omega (arith, is (c .root) (valid .root));
     }
       where
         bound : (f u : ℕ) → f < 65536 → (u ≡ 0) ⊎ (u ≡ 131072) → f + 65536 + u < 2 ^ 18

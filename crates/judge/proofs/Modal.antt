@@ -10,16 +10,15 @@ use native.Mathlib.Numerals.{add-one}
 use native.Mathlib.Omega.{arith}
 use lib.Bits.{bitOr, bitAnd, and-le-l}
 use lib.Dec.{T, eqb, eqb→eq, eqb-refl, T-not, not-T}
-use lib.ListN.{length, getD}
+use lib.ListN.{length}
 use lib.Pow.{pow-pos, pow-mono}
 use Rattle.flc.specs.Sets.{both, either, implies, forAll, forSome, has, setOf}
 use Rattle.flc.specs.Functions.{Fun}
 use Rattle.flc.specs.Formula.{Table, dia, box, meanAtom}
 use Rattle.flc.proofs.Tests.{bool-ext, both-left, both-right, both-mk, either-left, either-right, either-use, implies-use, implies-mk, forAll-use, forAll-mk, forSome-use, forSome-mk}
 use Rattle.flc.proofs.Masks.{has-setOf, setOf-lt, set-ext, has-and, or-setOf, setOf-ext}
-use Rattle.judge.specs.declared.plan.Plan.{Plan}
 use Rattle.judge.specs.Tables.{Filled, from}
-use Rattle.judge.specs.Plans.{Sized, Drawn}
+use Rattle.judge.specs.Plans.{Plan, Sized, Drawn}
 use Rattle.judge.proofs.Digits.{has-add, has-rest, has-high, has-gap}
 use Rattle.judge.proofs.Filling.{filled-ext, filled-up, filled-down, filled-one}
 
@@ -104,7 +103,7 @@ module _ {p : Plan} (z : Sized p) (a : ℕ) (low : a < 8) where
   dia-start S = record { within = omega arith; power = refl; long = refl; filled = λ L D. filled-one S (sym (dia-none L a)) }
 
   pub dia-turn : {w v u : List ℕ} {base h s q : ℕ} → Doubling p w v base h s (λ L. meanAtom L (dia a)) → s < p .states
-      → q ≡ getD (p .sources) (16 * a + s) 0 → Filled v u (base + h) h (λ x. bitOr (from v base x) q)
+      → q ≡ p .sources (16 * a + s) → Filled v u (base + h) h (λ x. bitOr (from v base x) q)
       → Doubling p w u base (h * 2) (s + 1) (λ L. meanAtom L (dia a))
   dia-turn {w} {v} {u} {base} {h} {s} {q} D l e S = record {
     within = omega arith;
@@ -132,7 +131,7 @@ module _ {p : Plan} (z : Sized p) (a : ℕ) (low : a < 8) where
   }
 
   pub box-turn : {w v u : List ℕ} {base d h s q : ℕ} → Doubling p w v d h s (λ L y. meanAtom L (box a) (p .size - h + y)) → s < p .states
-      → q ≡ getD (p .sources) (16 * a + s) 0 → d ≡ base + h → Filled v u base h (λ x. bitAnd (from v (base + h) x) (65535 - q))
+      → q ≡ p .sources (16 * a + s) → d ≡ base + h → Filled v u base h (λ x. bitAnd (from v (base + h) x) (65535 - q))
       → Doubling p w u base (h * 2) (s + 1) (λ L y. meanAtom L (box a) (p .size - h * 2 + y))
   box-turn {w} {v} {u} {base} {d} {h} {s} {q} D l e b S = record {
     within = omega arith;

@@ -1,6 +1,6 @@
 -- The scopes of nodes: what the table of unreached nodes says, and with the masks of free variables what each node depends on.
 -- Clearing goes from higher nodes to lower ones, so a node's entry is final when its turn comes.
-use Prim.Native.Nat.{ℕ, zero, suc, _+_, _-_, _≤_, _<_}
+use Prim.Native.Nat.{ℕ, zero, suc, _+_, _≤_, _<_}
 use mathlib.Core.Bool.{true, false, _&&_, or-false}
 use mathlib.Core.List.{List}
 use mathlib.Core.Logic.{_⊎_, inl, ⊎-elim}
@@ -19,12 +19,10 @@ use Rattle.flc.specs.Nodes.{Node, tree, formulaAt}
 use Rattle.flc.proofs.Tests.{both-right, either-left, either-right, either-use}
 use Rattle.flc.proofs.Unfolding.{formulaAt-node}
 use Rattle.case_model.specs.Case.{Triple, Case, at, nodeAt}
-use Rattle.case_model.proofs.NodeKinds.{variable}
-use Rattle.case_model.proofs.Frees.{masks}
 use Rattle.case_model.proofs.Tests.{and-l, and-r}
 use Rattle.case_model.proofs.Valid.{Valid}
 use Rattle.case_model.proofs.Nodes.{Fits, fits-constant, fits-variable, fits-pair, fits-binder, node-fits, node-lower, high-holds}
-use Rattle.judge.specs.Reaching.{named, reach, unreached}
+use Rattle.judge.specs.Reaching.{named, reach}
 use Rattle.judge.proofs.Digits.{has-add, has-high}
 
 -- ---- one node's turn

@@ -1,5 +1,6 @@
 -- Refreshing the nodes below k: the nodes below the last one, then that one, or not.
 -- A node outside what is active need not be right; one that depends only on the old is right already.
+-- Until its turn comes a node keeps its old block, so that of what has grown each node is told.
 use Prim.Native.Nat.{ℕ, zero, suc, _-_, _*_, _<_}
 use mathlib.Core.Bool.{Bool}
 use mathlib.Core.List.{List}
@@ -9,29 +10,31 @@ use native.Mathlib.Omega.{arith}
 use lib.Bits.{bitOr}
 use lib.Dec.{T, eqb-refl}
 use lib.ListN.{length}
-use Rattle.flc.specs.Formula.{Env, mean, var, free}
+use Rattle.flc.specs.Formula.{Env, var, free}
 use Rattle.flc.specs.Nodes.{Node, leaf, two, bind, tree, formulaAt}
 use Rattle.flc.proofs.Meanings.{GoodEnv}
-use Rattle.flc.proofs.Order.{Agree}
 use Rattle.flc.proofs.Unfolding.{formulaAt-node}
 use Rattle.case_model.specs.Case.{Case, table, nodeAt}
 use Rattle.case_model.proofs.Nodes.{node-lower}
-use Rattle.judge.specs.declared.plan.Plan.{Plan}
 use Rattle.judge.specs.Tables.{Filled}
-use Rattle.judge.specs.Plans.{Within, scope, home, block, value, Ready, Right, Refreshed, Computable, Computed, Fillable, roundsIn}
+use Rattle.judge.specs.Plans.{Plan, Within, scope, home, block, value, Ready, RightAt, Right, Older, Refreshed, Computable, Computed, Fillable, roundsIn}
 use Rattle.judge.proofs.Rightness.{or-within, within-or, kept-block, kept-up, kept-trans, filled-kept, matches-kept, right-more, value-small, value-right}
 
 pub not-zero : (k : ℕ) → (k ≡ 0 → ⊥) → k ≡ suc (k - 1)
 not-zero zero h = absurd (h refl)
 not-zero (suc k) h = omega arith
 
-pub refresh-none : {c : Case} {p : Plan} {w : List ℕ} {k act : ℕ} (old : ℕ) → Ready c p w k act → k ≡ 0 → Refreshed c p w w k old act
-refresh-none old R e = record {
+pub refresh-none : {c : Case} {p : Plan} {w : List ℕ} {k act : ℕ} (old grown : ℕ) → Ready c p w k act → k ≡ 0 → Refreshed c p w w k old act grown
+refresh-none old grown R e = record {
   kept = record { long = refl; small = R .small; above = λ q h. refl };
-  right = λ ρ G M S i l. absurd (omega arith);
+  right = λ ρ G M O H i l. absurd (omega arith);
 }
 
-module _ {c : Case} {p : Plan} {w : List ℕ} {k act : ℕ} (j old : ℕ) (R : Ready c p w k act) (e : k ≡ suc j) where
+-- less was right then too
+older-map : {n : ℕ} {d : Bool} {ρ : Env} {P Q : Env → Type 0} → ((σ : Env) → P σ → Q σ) → Older n d ρ P → Older n d ρ Q
+older-map h O = record { env = O .env; good = O .good; below = O .below; held = h (O .env) (O .held) }
+
+module _ {c : Case} {p : Plan} {w : List ℕ} {k act : ℕ} (j old grown : ℕ) (R : Ready c p w k act) (e : k ≡ suc j) where
   pub ready-down : Ready c p w j act
   ready-down = record {
     planned = R .planned;
@@ -45,22 +48,22 @@ module _ {c : Case} {p : Plan} {w : List ℕ} {k act : ℕ} (j old : ℕ) (R : R
   there : j < length (c .nodes)
   there = omega (arith, R .below)
 
-  module _ {u : List ℕ} (S : Refreshed c p w u j old act) where
+  module _ {u : List ℕ} (S : Refreshed c p w u j old act grown) where
     -- the last node too, if it is right
     last : ((ρ : Env) → GoodEnv (table c .n) ρ → Right c p ρ old w k → Within (scope p j) act
-        → Agree (table c .n) (block p u j) (mean (table c) (formulaAt (nodeAt c) j) ρ)) → Refreshed c p w u k old act
+        → RightAt c p ρ u j) → Refreshed c p w u k old act grown
     last h = record {
       kept = kept-up (S .kept) (omega arith);
-      right = λ ρ G M O i l a. elim (ℕ-discrete i j) [
-        | yes q ↦ subst (λ i. Within (scope p i) act → Agree (table c .n) (block p u i) (mean (table c) (formulaAt (nodeAt c) i) ρ)) (sym q) (h ρ G O) a
-        | no q ↦ S .right ρ G M (λ i l. O i (omega arith)) i (omega arith) a
+      right = λ ρ G M O H i l a. elim (ℕ-discrete i j) [
+        | yes q ↦ subst (λ i. Within (scope p i) act → RightAt c p ρ u i) (sym q) (h ρ G O) a
+        | no q ↦ S .right ρ G M (λ i l. O i (omega arith)) (λ g. older-map (λ σ Q i l. Q i (omega arith)) (H g)) i (omega arith) a
       ];
     }
 
-    pub skip-out : (bitOr (scope p j) act ≡ act → ⊥) → Refreshed c p w u k old act
+    pub skip-out : (bitOr (scope p j) act ≡ act → ⊥) → Refreshed c p w u k old act grown
     skip-out n = last (λ ρ G O a. absurd (n (within-or (scope p j) act (R .planned .scoped .small j there) (R .mask) a)))
 
-    pub skip-old : bitOr (scope p j) old ≡ old → Refreshed c p w u k old act
+    pub skip-old : bitOr (scope p j) old ≡ old → Refreshed c p w u k old act grown
     skip-old q = last (λ ρ G O a x i. kept-block (S .kept) j x (omega arith) ∙ O j (omega arith) (or-within (scope p j) old q) x i)
 
     pub computable : bitOr (scope p j) act ≡ act → Computable c p u j act
@@ -76,10 +79,12 @@ module _ {c : Case} {p : Plan} {w : List ℕ} {k act : ℕ} (j old : ℕ) (R : R
       within = or-within (scope p j) act q;
     }
 
-    pub one-more : {v : List ℕ} {r : ℕ} → Computed c p u v j act r → Refreshed c p w v k old act
-    one-more {v} C = subst (λ k. Refreshed c p w v k old act) (sym e) (record {
+    pub one-more : {v : List ℕ} {r : ℕ} → bitOr (scope p j) act ≡ act → Computed c p u v j act grown r → Refreshed c p w v k old act grown
+    one-more {v} q C = subst (λ k. Refreshed c p w v k old act grown) (sym e) (record {
       kept = kept-trans (S .kept) (C .kept) (omega arith);
-      right = λ ρ G M O. C .right ρ G (matches-kept (R .planned) act (S .kept) (omega arith) (R .active) M) (S .right ρ G M (λ i l. O i (omega arith))) .0;
+      right = λ ρ G M O H. C .right ρ G (matches-kept (R .planned) act (S .kept) (omega arith) (R .active) M)
+          (S .right ρ G M (λ i l. O i (omega arith)) (λ g. older-map (λ σ Q i l. Q i (omega arith)) (H g)))
+          (λ g. older-map (λ σ Q x i. kept-block (S .kept) j x (omega arith) ∙ Q j (omega arith) (or-within (scope p j) act q) x i) (H g)) .0;
     })
 
 -- ---- a node that is no binder
@@ -110,11 +115,11 @@ module _ {c : Case} {p : Plan} {w : List ℕ} {j act : ℕ} (C : Computable c p 
           subst (λ φ. T (free v φ)) (sym (formulaAt-node (nodeAt c) j (node-lower (C .ready .planned .valid) j (C .ready .below)) ∙ ap (λ m. tree m (formulaAt (nodeAt c))) e)) (unfold free in eqb-refl v)
 
   pub computed-plain : {v : List ℕ} → ((d : Bool) (v b : ℕ) → nodeAt c j ≡ bind d v b → ⊥)
-      → Filled w v (j * p .size) (p .size) (value (table c) (nodeAt c j) (block p w) (λ v. block p w (home p v))) → Computed c p w v j act 0
-  computed-plain {v} h S = record {
+      → Filled w v (j * p .size) (p .size) (value (table c) (nodeAt c j) (block p w) (λ v. block p w (home p v))) → (grown : ℕ) → Computed c p w v j act grown 0
+  computed-plain {v} h S grown = record {
     kept = filled-kept p S (C .ready .small) (value-small (C .ready .planned) w (C .ready .small) j (C .ready .below));
-    right = λ ρ G M R. (
+    right = λ ρ G M R H. (
       right-more (C .ready .planned) ρ G act S R (value-right (C .ready .planned) ρ G act w j (C .ready .below) h (C .within) M R),
-      no-rounds c j ρ h,
+      λ z. no-rounds c j ρ h,
     );
   }

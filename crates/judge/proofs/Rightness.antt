@@ -21,9 +21,8 @@ use Rattle.flc.proofs.Meanings.{GoodEnv, none-good, mean-small, mean-or, mean-a
 use Rattle.flc.proofs.Unfolding.{formulaAt-node}
 use Rattle.case_model.specs.Case.{Case, table, nodeAt}
 use Rattle.case_model.proofs.Nodes.{Fits, fits-constant, fits-variable, fits-pair, fits-binder, node-fits, node-lower}
-use Rattle.judge.specs.declared.plan.Plan.{Plan}
-use Rattle.judge.specs.Tables.{Filled, from}
-use Rattle.judge.specs.Plans.{Planned, Within, scope, home, block, value, Small, Matches, Right, Kept}
+use Rattle.judge.specs.Tables.{Filled}
+use Rattle.judge.specs.Plans.{Plan, Planned, Within, scope, home, block, value, Small, Matches, Right, Kept}
 use Rattle.judge.proofs.Values.{apart}
 
 -- ---- masks

@@ -1,4 +1,5 @@
 -- The loop of a binder, at the places where the code stands: before it, after a round, and at its two ends.
+-- It begins with the old block or with approximant 0: from both the iterates rise to the fixed point.
 -- Everything is said from where the loop began, and at the ends carried back to where the function was called.
 use Prim.Native.Nat.{ℕ, suc, _+_, _-_, _*_, _^_, _≤_, _<_}
 use mathlib.Core.Bool.{Bool, true, false, not, cond}
@@ -13,25 +14,25 @@ use lib.Bits.{bitOr}
 use lib.Dec.{eqb}
 use lib.ListN.{length}
 use Rattle.flc.specs.Sets.{setOf}
-use Rattle.flc.specs.Functions.{approximant}
-use Rattle.flc.specs.Formula.{Env}
-use Rattle.flc.specs.Nodes.{Node, bind}
+use Rattle.flc.specs.Functions.{Fun, approximant}
+use Rattle.flc.specs.Formula.{fix, Env, mean}
+use Rattle.flc.specs.Nodes.{Node, bind, formulaAt}
+use Rattle.flc.proofs.Order.{Agree}
+use Rattle.flc.proofs.FixedPoints.{iterate, Rising, approx-rising}
 use Rattle.flc.proofs.Rounds.{settled}
-use Rattle.flc.proofs.Meanings.{GoodEnv, mean-steady}
-use Rattle.flc.specs.Nodes.{formulaAt}
-use Rattle.case_file.specs.declared.parts.Triple as code
-use Rattle.case_file.specs.Read.{IsTriple}
+use Rattle.flc.proofs.Meanings.{GoodEnv, mean-steady, mean-rising}
+use Rattle.case_reader.specs.declared.parts.Triple as code
+use Rattle.case_reader.specs.Read.{IsTriple}
 use Rattle.case_model.specs.Case.{Triple, Case, at, table, kinds, nodeOf, nodeAt}
 use Rattle.case_model.specs.Rows.{nodeHolds}
 use Rattle.case_model.proofs.NodeKinds.{Kind, constant, variable, pair, binder, beyond, kind}
 use Rattle.case_model.proofs.Nodes.{high-holds}
 use Rattle.case_model.proofs.Valid.{Valid}
-use Rattle.judge.specs.declared.plan.Plan.{Plan}
 use Rattle.judge.specs.Tables.{Filled, Advanced}
-use Rattle.judge.specs.Plans.{Matches, Right, Kept, Refreshed, Computable, Computed, roundsIn}
+use Rattle.judge.specs.Plans.{Plan, block, Matches, RightAt, Right, Kept, Older, Grown, Refreshed, Computable, Computed, roundsIn}
 use Rattle.judge.proofs.Values.{apart, size-some, set-all, set-none}
 use Rattle.judge.proofs.Rightness.{size-is, kept-trans, filled-kept, filled-lower, matches-kept}
-use Rattle.judge.proofs.Approximating.{binds-low, Turned, Turning, round-right, round-now, round-stood, round-moved, stands}
+use Rattle.judge.proofs.Approximating.{body, Turns, Turning, binds-low, binder-mean, round-right, round-now, round-stood, round-moved, round-older, stands}
 
 -- ---- the node of a triple, by its kind
 module _ (c : Case) (j : ℕ) {t : code.Triple} (r : IsTriple t (at (c .nodes) j)) where
@@ -93,17 +94,27 @@ bound {c} {p} {w} {j} {act} {t} C r l =
     }
 
 -- ---- the loop
--- approximant 0 is a set
-pub start-low : (k size : ℕ) {s₀ : ℕ} → 0 < size → s₀ ≡ cond (eqb k 11) 0 (size - 1) → s₀ < size
-start-low k size h e = rw e (go (eqb k 11))
-  where
-    go : (b : Bool) → cond b 0 (size - 1) < size
-    go true = h
-    go false = omega arith
+-- a binder is one node only
+only : {m : Node} (Q : Bool → ℕ → ℕ → Type 0) {d : Bool} {v b : ℕ} → m ≡ bind d v b → Q d v b → (d′ : Bool) (v′ b′ : ℕ) → m ≡ bind d′ v′ b′ → Q d′ v′ b′
+only {m} Q {d} {v} {b} e h d′ v′ b′ q =
+    let f : d ≡ d′ = cc in
+    let g : v ≡ v′ = cc in
+    let k : b ≡ b′ = cc in
+    subst (λ d. Q d v′ b′) f (subst (λ v. Q d v b′) g (subst (λ b. Q d v b) k h))
 
-module _ {c : Case} {p : Plan} {w w₀ : List ℕ} {j act s₀ : ℕ} (C : Computable c p w j act) (F : Filled w w₀ (j * p .size) (p .size) (λ x. s₀)) (low : s₀ < p .size) where
+-- what binder j's block begins with
+abbrev pub begins : Plan → List ℕ → ℕ → ℕ → ℕ → Fun
+begins p w j kind grown x = cond (eqb kind grown) (block p w j x) (cond (eqb kind 11) 0 (p .size - 1))
+
+module _ {c : Case} {p : Plan} {w w₀ : List ℕ} {j act : ℕ} (kind grown : ℕ) (C : Computable c p w j act)
+    (F : Filled w w₀ (j * p .size) (p .size) (begins p w j kind grown)) where
   begun : Kept p w w₀ (suc j)
-  begun = filled-kept p F (C .ready .small) (λ x h. low)
+  begun = filled-kept p F (C .ready .small) (λ x h. low x (eqb kind grown) (eqb kind 11))
+    where
+      low : (x : ℕ) (old d : Bool) → cond old (block p w j x) (cond d 0 (p .size - 1)) < p .size
+      low x true d = C .ready .small _
+      low x false true = size-some (C .ready .planned .sized) .0
+      low x false false = omega (arith, size-some (C .ready .planned .sized))
 
   -- what the loop begins with
   pub restart : Computable c p w₀ j act
@@ -119,70 +130,93 @@ module _ {c : Case} {p : Plan} {w w₀ : List ℕ} {j act s₀ : ℕ} (C : Compu
     within = C .within;
   }
 
-  -- from the loop back to the call
-  back : {z : List ℕ} {r : ℕ} → Kept p w₀ z (suc j)
-      → ((ρ : Env) → GoodEnv (table c .n) ρ → Matches c p ρ act w₀ → Right c p ρ act w₀ j
-      → Right c p ρ act z (suc j) × (r ≡ roundsIn (table c) (nodeAt c j) (formulaAt (nodeAt c)) ρ))
-      → Computed c p w z j act r
-  back K h = record {
-    kept = kept-trans begun K (omega arith);
-    right = λ ρ G M R. h ρ G (matches-kept (C .ready .planned) act begun (omega arith) (C .ready .active) M)
-        (λ i l a x k. filled-lower p F i x l (rw (size-is (C .ready .planned)) k) ∙ R i l a x k);
+  pub turning-start : Turning c p w₀ w₀ j act 0 0
+  unfolding iterate
+  turning-start = record {
+    kept = record { long = refl; small = begun .small; above = λ q h. refl };
+    turned = λ d v b e ρ G M R f a Z. record {
+      right = R;
+      now = a;
+      moved = λ i l. absurd (not-suc-le-zero l);
+      older = λ l. absurd (not-suc-le-zero l);
+    };
   }
 
-  module _ (d : Bool) (v b : ℕ) (e : nodeAt c j ≡ bind d v b) where
-    -- it is the only node there is at j
-    only : {ρ : Env} {z : List ℕ} {r : ℕ} (d′ : Bool) (v′ b′ : ℕ) → nodeAt c j ≡ bind d′ v′ b′ → Turned c p ρ act z j d v b r → Turned c p ρ act z j d′ v′ b′ r
-    only {ρ} {z} {r} d′ v′ b′ q U =
-        let f : d ≡ d′ = cc in
-        let g : v ≡ v′ = cc in
-        let h : b ≡ b′ = cc in
-        subst (λ d. Turned c p ρ act z j d v′ b′ r) f (subst (λ v. Turned c p ρ act z j d v b′ r) g (subst (λ b. Turned c p ρ act z j d v b r) h U))
+  module _ (v b : ℕ) (e : nodeAt c j ≡ bind (eqb kind 11) v b) (high : 11 ≤ kind) where
+    abbrev d : Bool
+    d = eqb kind 11
 
-    pub turning-start : s₀ ≡ cond d 0 (p .size - 1) → Turning c p w₀ w₀ j act 0
+    -- the iterates rise from the old block, which is the meaning in an environment below, and from approximant 0
+    rising : (ρ : Env) → GoodEnv (table c .n) ρ → Grown (table c .n) grown ρ (λ σ. RightAt c p σ w j)
+        → (f : Fun) × Agree (table c .n) (block p w₀ j) f × Rising d (table c .n) (body c ρ v b) f
+        × (grown ≡ 0 → f ≡ approximant d (table c .n) (body c ρ v b) 0)
     unfolding approximant
-    turning-start q = record {
-      kept = record { long = refl; small = begun .small; above = λ q h. refl };
-      turned = λ d′ v′ b′ q′ ρ G M R. only {ρ = ρ} {z = w₀} {r = 0} d′ v′ b′ q′ (record {
-        right = R;
-        now = λ x k. F .inside x (rw (size-is (C .ready .planned)) k) ∙ q ∙ first d;
-        moved = λ i l. absurd (not-suc-le-zero l);
-      });
-    }
+    rising ρ G H = elim (ℕ-discrete kind grown) [
+      | yes q ↦
+          let O = subst (λ k. Older (table c .n) (eqb k 11) ρ (λ σ. RightAt c p σ w j)) (sym q) (H (omega arith)) in (
+            mean (table c) (fix d v (formulaAt (nodeAt c) b)) (O .env),
+            (λ x k. F .inside x (rw (size-is (C .ready .planned)) k) ∙ ap (λ t. cond t (block p w j x) (cond d 0 (p .size - 1))) (eq-eqb kind grown q) ∙ O .held x k
+                ∙ ap (λ f. f x) (binder-mean C d v b e (O .env))),
+            mean-rising d (table c) v (formulaAt (nodeAt c) b) (O .env) ρ (O .good) G (O .below),
+            λ z. absurd (omega arith),
+          )
+      | no q ↦ (
+        approximant d (table c .n) (body c ρ v b) 0,
+        (λ x k. F .inside x (rw (size-is (C .ready .planned)) k) ∙ ap (λ t. cond t (block p w j x) (cond d 0 (p .size - 1))) (ne-eqb kind grown q) ∙ first d),
+        approx-rising d,
+        λ z. refl,
+      )
+    ]
       where
         first : (d : Bool) → cond d 0 (p .size - 1) ≡ setOf (table c .n) (λ s. not d)
         first true = sym (set-none (table c .n))
         first false = ap (λ k. k - 1) (size-is (C .ready .planned)) ∙ sym (set-all (table c .n))
 
-    module _ {x y z : List ℕ} {r change : ℕ} (T₁ : Turning c p w₀ x j act r) (R : Refreshed c p x y j act (bitOr act (2 ^ v)))
+    -- from the loop back to the call
+    back : {z : List ℕ} {r : ℕ} → Kept p w₀ z (suc j)
+        → ((ρ : Env) → GoodEnv (table c .n) ρ → Matches c p ρ act w₀ → Right c p ρ act w₀ j
+        → (f : Fun) → Agree (table c .n) (block p w₀ j) f → Rising d (table c .n) (body c ρ v b) f
+        → Right c p ρ act z (suc j) × (f ≡ approximant d (table c .n) (body c ρ v b) 0 → r ≡ roundsIn (table c) (nodeAt c j) (formulaAt (nodeAt c)) ρ))
+        → Computed c p w z j act grown r
+    back K h = record {
+      kept = kept-trans begun K (omega arith);
+      right = λ ρ G M R H.
+          let (f, a, Z, anew) = rising ρ G H in
+          let (right, rounds) = h ρ G (matches-kept (C .ready .planned) act begun (omega arith) (C .ready .active) M)
+          (λ i l a x k. filled-lower p F i x l (rw (size-is (C .ready .planned)) k) ∙ R i l a x k) f a Z in
+          (right, λ g. rounds (anew g));
+    }
+
+    module _ {x y z : List ℕ} {r moved change : ℕ} (T₁ : Turning c p w₀ x j act r moved) (R : Refreshed c p x y j act (bitOr act (2 ^ v)) moved)
         (D : Advanced y z (b * p .size) (j * p .size) (p .size) change) where
       round-kept : Kept p w₀ z (suc j)
       round-kept = kept-trans (T₁ .kept) (kept-trans (R .kept) (filled-kept p (D .filled) (R .kept .small) (λ q h. R .kept .small _)) (omega arith)) (omega arith)
 
-      pub turning-again : (change ≡ 0 → ⊥) → Turning c p w₀ z j act (r + 1)
+      pub turning-again : (change ≡ 0 → ⊥) → Turning c p w₀ z j act (r + 1) kind
       turning-again n = record {
         kept = round-kept;
-        turned = λ d′ v′ b′ q′ ρ G M S. only {ρ = ρ} {z = z} {r = r + 1} d′ v′ b′ q′ (rw add-one (
-            let U = T₁ .turned d v b e ρ G M S in
+        turned = only (Turns c p w₀ z j act (r + 1) kind) e (rw add-one (λ ρ G M S f a Z.
+            let U = T₁ .turned d v b e ρ G M S f a Z in
             record {
-              right = round-right restart d v b e (T₁ .kept) R D ρ G M U;
-              now = round-now restart d v b e (T₁ .kept) R D ρ G M U;
+              right = round-right restart d v b e (T₁ .kept) R D ρ G M Z U;
+              now = round-now restart d v b e (T₁ .kept) R D ρ G M Z U;
               moved = λ i l. elim (ℕ-discrete i r) [
-                | yes g ↦ rw g (round-moved restart d v b e (T₁ .kept) R D ρ G M U n)
+                | yes g ↦ rw g (round-moved restart d v b e (T₁ .kept) R D ρ G M Z U n)
                 | no g ↦ U .moved i (omega arith)
               ];
+              older = λ l. round-older restart d v b e (T₁ .kept) R D ρ G M Z U;
             }));
       }
 
-      pub settled-early : change ≡ 0 → Computed c p w z j act r
-      settled-early q = back round-kept (λ ρ G M S.
-          let U = T₁ .turned d v b e ρ G M S in
-          let s = round-stood restart d v b e (T₁ .kept) R D ρ G M U q in
-          stands restart d v b e z r ρ G (round-right restart d v b e (T₁ .kept) R D ρ G M U)
-          (λ x k. round-now restart d v b e (T₁ .kept) R D ρ G M U x k ∙ sym (s x k)) s (U .moved))
+      pub settled-early : change ≡ 0 → Computed c p w z j act grown r
+      settled-early q = back round-kept (λ ρ G M S f a Z.
+          let U = T₁ .turned d v b e ρ G M S f a Z in
+          let s = round-stood restart d v b e (T₁ .kept) R D ρ G M Z U q in
+          stands restart d v b e z r ρ G (round-right restart d v b e (T₁ .kept) R D ρ G M Z U) f Z
+          (λ x k. round-now restart d v b e (T₁ .kept) R D ρ G M Z U x k ∙ sym (s x k)) s (U .moved))
 
-    pub settled-late : {x : List ℕ} {r : ℕ} → Turning c p w₀ x j act r → p .limit ≤ r → Computed c p w x j act r
-    settled-late {x} {r} T₁ h = back (T₁ .kept) (λ ρ G M S.
-        let U = T₁ .turned d v b e ρ G M S in
+    pub settled-late : {x : List ℕ} {r moved : ℕ} → Turning c p w₀ x j act r moved → p .limit ≤ r → Computed c p w x j act grown r
+    settled-late {x} {r} T₁ h = back (T₁ .kept) (λ ρ G M S f a Z.
+        let U = T₁ .turned d v b e ρ G M S f a Z in
         let k : table c .n * 2 ^ table c .n ≤ r = subst (λ m. m ≤ r) (C .ready .planned .limit ∙ ap₂ (λ m n. m * n) (C .ready .planned .drawn .states) (size-is (C .ready .planned))) h in
-        stands restart d v b e x r ρ G (U .right) (U .now) (settled d (mean-steady (table c) (formulaAt (nodeAt c) b) v ρ G) r k) (U .moved))
+        stands restart d v b e x r ρ G (U .right) f Z (U .now) (settled d (mean-steady (table c) (formulaAt (nodeAt c) b) v ρ G) Z r k) (U .moved))

@@ -17,8 +17,8 @@ use Rattle.flc.specs.Sets.{both, either, has, bit, setOf}
 use Rattle.flc.specs.Nodes.{bind}
 use Rattle.flc.proofs.Tests.{bool-ext, both-left, both-right, both-mk, either-left, either-right, either-use}
 use Rattle.flc.proofs.Masks.{setOf-ext, setOf-lt, has-or}
-use Rattle.case_file.specs.declared.parts.Triple as code
-use Rattle.case_file.specs.Read.{IsTriple, triple}
+use Rattle.case_reader.specs.declared.parts.Triple as code
+use Rattle.case_reader.specs.Read.{IsTriple, triple}
 use Rattle.case_model.specs.Case.{Triple, Case, at, listed, nodeAt}
 use Rattle.case_model.proofs.Valid.{Valid}
 use Rattle.case_model.proofs.Nodes.{one-binder}

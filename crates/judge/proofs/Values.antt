@@ -9,11 +9,11 @@ use native.Mathlib.Omega.{arith}
 use borrow.Author.Tests.{ltb-true, le-leb, lt-leb}
 use lib.Bits.{bitOr, bitAnd}
 use lib.Dec.{ltb}
-use lib.ListN.{length, getD}
+use lib.ListN.{length}
 use lib.Pow.{pow-pos, pow-mono}
-use Rattle.flc.specs.Sets.{has, setOf}
+use Rattle.flc.specs.Sets.{setOf}
 use Rattle.flc.specs.Functions.{Fun}
-use Rattle.flc.specs.Formula.{dia, box, or, and, meanAtom, mean}
+use Rattle.flc.specs.Formula.{dia, box, meanAtom, mean}
 use Rattle.flc.specs.Nodes.{Node}
 use Rattle.flc.proofs.Masks.{has-setOf, setOf-lt, set-ext}
 use Rattle.case_model.specs.Case.{Triple, Case, at, table, kinds, nodeOf, nodeAt}
@@ -21,11 +21,10 @@ use Rattle.case_model.specs.Rows.{nodeHolds}
 use Rattle.case_model.proofs.Tests.{is-true, and-l, and-r}
 use Rattle.case_model.proofs.NodeKinds.{Kind, constant, variable, pair, binder, beyond, kind}
 use Rattle.case_model.proofs.Nodes.{high-holds}
-use Rattle.case_file.specs.declared.parts.Triple as code
-use Rattle.case_file.specs.Read.{IsTriple}
-use Rattle.judge.specs.declared.plan.Plan.{Plan}
+use Rattle.case_reader.specs.declared.parts.Triple as code
+use Rattle.case_reader.specs.Read.{IsTriple}
 use Rattle.judge.specs.Tables.{Filled}
-use Rattle.judge.specs.Plans.{Sized, Fillable, home, block, value}
+use Rattle.judge.specs.Plans.{Plan, Sized, Fillable, home, block, value}
 use Rattle.judge.proofs.Digits.{has-rest}
 use Rattle.judge.proofs.Filling.{filled-ext}
 use Rattle.judge.proofs.Modal.{has-none, has-all}
@@ -79,7 +78,7 @@ module _ {c : Case} {p : Plan} {w : List ℕ} {j : ℕ} (F : Fillable c p w j) w
   pub here : j * p .size + p .size ≤ length w
   here = omega (arith, apart (p .size) j (length (c .nodes)) (F .there), F .room)
 
-  pub prop-small : (i : ℕ) → i < 8 → getD (p .props) i 0 < p .size
+  pub prop-small : (i : ℕ) → i < 8 → p .props i < p .size
   prop-small i l = rw (F .planned .drawn .props i l, size-is) (setOf-lt (table c .n) _)
 
   -- v has the table of node j
@@ -108,11 +107,11 @@ module _ {c : Case} {p : Plan} {w : List ℕ} {j : ℕ} (F : Fillable c p w j) w
     unfolding mean meanAtom nodeOf kinds
     bottom-done e S = done _ e S (λ x k. sym (set-none (table c .n)))
 
-    pub prop-done : (2, a, b) ≡ at (c .nodes) j → a < 8 → Filled w v (j * p .size) (p .size) (λ x. getD (p .props) a 0) → Done v
+    pub prop-done : (2, a, b) ≡ at (c .nodes) j → a < 8 → Filled w v (j * p .size) (p .size) (λ x. p .props a) → Done v
     unfolding mean meanAtom nodeOf kinds
     prop-done e l S = done _ e S (λ x k. F .planned .drawn .props a l)
 
-    pub nprop-done : (3, a, b) ≡ at (c .nodes) j → a < 8 → Filled w v (j * p .size) (p .size) (λ x. p .size - 1 - getD (p .props) a 0) → Done v
+    pub nprop-done : (3, a, b) ≡ at (c .nodes) j → a < 8 → Filled w v (j * p .size) (p .size) (λ x. p .size - 1 - p .props a) → Done v
     unfolding mean meanAtom nodeOf kinds
     nprop-done e l S = done _ e S (λ x k. ap₂ (λ m q. m - 1 - q) size-is (F .planned .drawn .props a l) ∙ set-rest (table c .n) _)
 

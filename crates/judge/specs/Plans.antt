@@ -11,31 +11,54 @@ use Rattle.flc.specs.Sets.{either, has, setOf}
 use Rattle.flc.specs.Functions.{Fun, rounds}
 use Rattle.flc.specs.Formula.{Table, Op, or, and, chop, var, Formula, Env, put, mean, free}
 use Rattle.flc.specs.Nodes.{Node, leaf, two, bind, formulaAt}
-use Rattle.flc.proofs.Order.{Sub, Agree}
+use Rattle.flc.proofs.Order.{Sub, Below, Agree}
 use Rattle.flc.proofs.Meanings.{GoodEnv}
 use Rattle.case_model.specs.Case.{Triple, Case, listed, table, nodeAt}
 use Rattle.case_model.proofs.Valid.{Valid}
-use Rattle.judge.specs.declared.plan.Plan.{Plan}
 use Rattle.judge.specs.Tables.{from}
 
 -- ---- the plan
+-- n, 2^n, and the rounds after which approximants stand still; for each node what it depends on, for each variable its binder,
+-- for each proposition the states that have it, and for each action a and state t, at 16a + t, the states with an a-step to t
+pub record Plan : Type 0 where
+  pub states : ℕ
+  pub size : ℕ
+  pub limit : ℕ
+  pub scopes : ℕ → ℕ
+  pub homes : ℕ → ℕ
+  pub props : ℕ → ℕ
+  pub sources : ℕ → ℕ
+
+-- as a table of words has it
+abbrev pub decoded : List ℕ → Plan
+decoded t = record {
+  states = getD t 0 0;
+  size = getD t 1 0;
+  limit = getD t 2 0;
+  scopes = λ j. getD t (3 + j) 0;
+  homes = λ v. getD t (67 + v) 0;
+  props = λ i. getD t (83 + i) 0;
+  sources = λ k. getD t (91 + k) 0;
+}
+
 pub record Sized (p : Plan) : Type 0 where
   pub few : p .states ≤ 16
   pub size : p .size ≡ 2 ^ p .states
+  pub sources : (k : ℕ) → k < 128 → p .sources k < 65536
 
 -- the plan has the sets of the state table
 pub record Drawn (L : Table) (p : Plan) : Type 0 where
   pub states : p .states ≡ L .n
-  pub props : (i : ℕ) → i < 8 → getD (p .props) i 0 ≡ setOf (L .n) (λ s. has (L .label s) i)
-  pub sources : (a t : ℕ) → a < 8 → t < 16 → getD (p .sources) (16 * a + t) 0 ≡ setOf (L .n) (λ s. L .step s a t)
+  pub props : (i : ℕ) → i < 8 → p .props i ≡ setOf (L .n) (λ s. has (L .label s) i)
+  pub sources : (a t : ℕ) → a < 8 → t < 16 → p .sources (16 * a + t) ≡ setOf (L .n) (λ s. L .step s a t)
 
 -- the binder of a variable
 abbrev pub home : Plan → ℕ → ℕ
-home p v = getD (p .homes) v 0
+home p v = p .homes v
 
 -- what a node depends on: its free variables, a mark that each node has, and one that the nodes have which the root does not reach
 abbrev pub scope : Plan → ℕ → ℕ
-scope p j = getD (p .frees) j 0 + 65536 + getD (p .unreached) j 0
+scope p j = p .scopes j
 
 abbrev pub Within : ℕ → ℕ → Type 0
 Within u act = Sub true 18 u act
@@ -97,10 +120,13 @@ pub record Ready (c : Case) (p : Plan) (w : List ℕ) (k act : ℕ) : Type 0 whe
 abbrev pub Matches : Case → Plan → Env → ℕ → List ℕ → Type 0
 Matches c p ρ act w = (v : ℕ) → v < 16 → T (has act v) → Agree (table c .n) (block p w (home p v)) (ρ v)
 
--- the blocks of the nodes below k that depend only on what is active are their meanings
+-- block j is the meaning of node j ..
+abbrev pub RightAt : Case → Plan → Env → List ℕ → ℕ → Type 0
+RightAt c p ρ w j = Agree (table c .n) (block p w j) (mean (table c) (formulaAt (nodeAt c) j) ρ)
+
+-- .. and so for all nodes below k that depend only on what is active
 abbrev pub Right : Case → Plan → Env → ℕ → List ℕ → ℕ → Type 0
-Right c p ρ act w k =
-    (i : ℕ) → i < k → Within (scope p i) act → Agree (table c .n) (block p w i) (mean (table c) (formulaAt (nodeAt c) i) ρ)
+Right c p ρ act w k = (i : ℕ) → i < k → Within (scope p i) act → RightAt c p ρ w i
 
 -- the words from block k on are as they were, and every word is still a set
 pub record Kept (p : Plan) (w v : List ℕ) (k : ℕ) : Type 0 where
@@ -108,10 +134,22 @@ pub record Kept (p : Plan) (w v : List ℕ) (k : ℕ) : Type 0 where
   pub small : Small p v
   pub above : (q : ℕ) → k * p .size ≤ q → getD v q 0 ≡ getD w q 0
 
+-- Q held in an environment below ρ, in the order of the flag
+pub record Older (n : ℕ) (d : Bool) (ρ : Env) (Q : Env → Type 0) : Type 0 where
+  pub env : Env
+  pub good : GoodEnv n env
+  pub below : (v : ℕ) → Below d n (env v) (ρ v)
+  pub held : Q env
+
+-- since Q held, the functions moved only as those of a binder of the kind `grown` do: up for μ, down for ν; 0 if nothing is known
+abbrev pub Grown : ℕ → ℕ → Env → (Env → Type 0) → Type 0
+Grown n grown ρ Q = 0 < grown → Older n (eqb grown 11) ρ Q
+
 -- the nodes below k were computed, for all functions of the active variables
-pub record Refreshed (c : Case) (p : Plan) (w v : List ℕ) (k old act : ℕ) : Type 0 where
+pub record Refreshed (c : Case) (p : Plan) (w v : List ℕ) (k old act grown : ℕ) : Type 0 where
   pub kept : Kept p w v k
-  pub right : (ρ : Env) → GoodEnv (table c .n) ρ → Matches c p ρ act w → Right c p ρ old w k → Right c p ρ act v k
+  pub right : (ρ : Env) → GoodEnv (table c .n) ρ → Matches c p ρ act w → Right c p ρ old w k
+      → Grown (table c .n) grown ρ (λ σ. Right c p σ act w k) → Right c p ρ act v k
 
 -- a binder's rounds, given functions for the free variables; 0 of another node
 abbrev pub roundsIn : Table → Node → (ℕ → Formula) → Env → ℕ
@@ -123,11 +161,12 @@ pub record Computable (c : Case) (p : Plan) (w : List ℕ) (j act : ℕ) : Type 
   pub ready : Ready c p w (suc j) act
   pub within : Within (scope p j) act
 
--- node j was computed, in r rounds
-pub record Computed (c : Case) (p : Plan) (w v : List ℕ) (j act r : ℕ) : Type 0 where
+-- node j was computed; if it started anew, in r rounds
+pub record Computed (c : Case) (p : Plan) (w v : List ℕ) (j act grown r : ℕ) : Type 0 where
   pub kept : Kept p w v (suc j)
   pub right : (ρ : Env) → GoodEnv (table c .n) ρ → Matches c p ρ act w → Right c p ρ act w j
-      → Right c p ρ act v (suc j) × (r ≡ roundsIn (table c) (nodeAt c j) (formulaAt (nodeAt c)) ρ)
+      → Grown (table c .n) grown ρ (λ σ. RightAt c p σ w j)
+      → Right c p ρ act v (suc j) × (grown ≡ 0 → r ≡ roundsIn (table c) (nodeAt c j) (formulaAt (nodeAt c)) ρ)
 
 -- ---- what the plan is made of
 -- the first k propositions' sets of the states below n

@@ -9,6 +9,10 @@ use Rattle.flc.specs.Functions.{Fun}
 abbrev pub from : List ℕ → ℕ → Fun
 from w base x = getD w (base + x) 0
 
+-- the scopes of nodes from their free variables and the marks of those that the root does not reach
+abbrev pub scopesFrom : List ℕ → List ℕ → Fun
+scopesFrom frees unreached j = getD frees j 0 + 65536 + getD unreached j 0
+
 -- v is w with `count` words from `base` on filled by f
 pub record Filled (w v : List ℕ) (base count : ℕ) (f : Fun) : Type 0 where
   pub long : length v ≡ length w

@@ -3,9 +3,11 @@ ghost use mathlib.Core.Path.{_≡_};
 ghost use lib.ListN.{length};
 ghost use Rattle.case_model.specs.Case.{read};
 ghost use Rattle.case_model.specs.Judging.{judging, cleared, verdict};
-ghost use Rattle.judge.specs.Plans.{Asked};
+ghost use Rattle.judge.specs.Plans.{decoded, Asked};
 ghost use Rattle.judge.specs.Told.{told, answer};
 use crate::plan::Plan;
+use crate::plan::SIZE;
+use crate::plan::plan;
 use crate::refresh::compute;
 use crate::refresh::refresh;
 use crate::tables::constant;
@@ -14,7 +16,7 @@ use case_file::Reason;
 use case_file::Refusal;
 use case_file::Vetted;
 use case_file::refusal;
-use case_file::root;
+use case_reader::root;
 
 pub struct Verdict {
     pub set: u16,
@@ -27,16 +29,16 @@ pub enum Judged {
 }
 
 // The root's function at the set, and its rounds: all nodes that the root reaches, with no variable active.
-fn answer(work: &mut [u16], file: &[u8], plan: Plan, set: u16) -> Verdict
-    requires { ⌜ Asked (read (now file)) plan set (length (now work)) ⌝ }
+fn answer(work: &mut [u16], file: &[u8], plan: &Plan, set: u16) -> Verdict
+    requires { ⌜ Asked (read (now file)) (decoded (now plan)) set (length (now work)) ⌝ }
     ensures { λ r. ⌜ answer r ≡ verdict (read (now (file .entry))) set ⌝ }
 {
     let all = work.len();
     let top = root(file);
-    let size = plan.size;
+    let size = plan[SIZE];
     constant(work, all, 0, 0);
-    refresh(work, file, plan, top, 0, 65536);
-    let rounds = compute(work, file, plan, top, 65536);
+    refresh(work, file, plan, top, 0, 65536, 0);
+    let rounds = compute(work, file, plan, top, 65536, 0);
     let at = top * size + set as usize;
     let value = work[at];
     Verdict { set: value, rounds }
@@ -68,8 +70,8 @@ pub fn judge(file: &[u8], set: u16, work: &mut [u16]) -> Judged
             place: 0,
         });
     }
-    let plan = Plan::new(file, n, m);
-    let verdict = answer(work, file, plan, set);
+    let plan = plan(file, n, m);
+    let verdict = answer(&mut work[..m * size], file, &plan, set);
     constant(work, words, 0, 0);
     Judged::Verdict(verdict)
 }

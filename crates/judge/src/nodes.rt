@@ -4,8 +4,10 @@ ghost use lib.ListN.{length};
 ghost use Rattle.flc.specs.Formula.{Table, dia, box, meanAtom};
 ghost use Rattle.case_model.specs.Case.{read, nodeAt, table};
 ghost use Rattle.judge.specs.Tables.{Filled};
-ghost use Rattle.judge.specs.Plans.{Sized, Drawn, Fillable, value, block, home};
+ghost use Rattle.judge.specs.Plans.{decoded, Sized, Drawn, Fillable, value, block, home};
 use crate::plan::Plan;
+use crate::plan::SIZE;
+use crate::plan::STATES;
 use crate::plan::binder;
 use crate::plan::prop;
 use crate::plan::source;
@@ -17,14 +19,14 @@ use crate::tables::intersection;
 use crate::tables::narrow;
 use crate::tables::union;
 use crate::tables::widen;
-use case_file::node;
+use case_reader::node;
 
 // ⟨a⟩: none into the empty set; a state more adds the states with an a-step into it. Each turn doubles what is filled, upwards.
-fn diamond(work: &mut [u16], plan: Plan, a: usize, c: usize)
-    requires { ⌜ Sized plan × (a < 8) × (c + plan .size ≤ length (now work)) ⌝ }
-    ensures { λ _. ⌜ ((L : Table) → Drawn L plan → Filled (now (work .entry)) (now (work .exit)) c (plan .size) (meanAtom L (dia a))) ⌝ }
+fn diamond(work: &mut [u16], plan: &Plan, a: usize, c: usize)
+    requires { ⌜ Sized (decoded (now plan)) × (a < 8) × (c + decoded (now plan) .size ≤ length (now work)) ⌝ }
+    ensures { λ _. ⌜ ((L : Table) → Drawn L (decoded (now (plan .entry))) → Filled (now (work .entry)) (now (work .exit)) c (decoded (now (plan .entry)) .size) (meanAtom L (dia a))) ⌝ }
 {
-    let n = plan.states;
+    let n = plan[STATES];
     constant(work, 1, c, 0);
     let mut h: usize = 1;
     for s in 0..n {
@@ -35,12 +37,12 @@ fn diamond(work: &mut [u16], plan: Plan, a: usize, c: usize)
 }
 
 // [a]: all states into the set of all; a state less takes away the states with an a-step into it. Each turn doubles what is filled, downwards.
-fn boxed(work: &mut [u16], plan: Plan, a: usize, c: usize)
-    requires { ⌜ Sized plan × (a < 8) × (c + plan .size ≤ length (now work)) ⌝ }
-    ensures { λ _. ⌜ ((L : Table) → Drawn L plan → Filled (now (work .entry)) (now (work .exit)) c (plan .size) (meanAtom L (box a))) ⌝ }
+fn boxed(work: &mut [u16], plan: &Plan, a: usize, c: usize)
+    requires { ⌜ Sized (decoded (now plan)) × (a < 8) × (c + decoded (now plan) .size ≤ length (now work)) ⌝ }
+    ensures { λ _. ⌜ ((L : Table) → Drawn L (decoded (now (plan .entry))) → Filled (now (work .entry)) (now (work .exit)) c (decoded (now (plan .entry)) .size) (meanAtom L (box a))) ⌝ }
 {
-    let n = plan.states;
-    let last = plan.size - 1;
+    let n = plan[STATES];
+    let last = plan[SIZE] - 1;
     constant(work, 1, c + last, last as u16);
     let mut h: usize = 1;
     let mut d = c + last;
@@ -53,14 +55,14 @@ fn boxed(work: &mut [u16], plan: Plan, a: usize, c: usize)
 }
 
 // Node j, which is no binder.
-pub(crate) fn fill(work: &mut [u16], file: &[u8], plan: Plan, j: usize)
-    requires { ⌜ Fillable (read (now file)) plan (now work) j ⌝ }
-    ensures { λ _. ⌜ Filled (now (work .entry)) (now (work .exit)) (j * plan .size) (plan .size) (value (table (read (now (file .entry)))) (nodeAt (read (now (file .entry))) j) (block plan (now (work .entry))) (λ v. block plan (now (work .entry)) (home plan v))) ⌝ }
+pub(crate) fn fill(work: &mut [u16], file: &[u8], plan: &Plan, j: usize)
+    requires { ⌜ Fillable (read (now file)) (decoded (now plan)) (now work) j ⌝ }
+    ensures { λ _. ⌜ Filled (now (work .entry)) (now (work .exit)) (j * decoded (now (plan .entry)) .size) (decoded (now (plan .entry)) .size) (value (table (read (now (file .entry)))) (nodeAt (read (now (file .entry))) j) (block (decoded (now (plan .entry))) (now (work .entry))) (λ v. block (decoded (now (plan .entry))) (now (work .entry)) (home (decoded (now (plan .entry))) v))) ⌝ }
 {
     let x = node(file, j);
     let kind = x.0;
     let a = x.1;
-    let size = plan.size;
+    let size = plan[SIZE];
     let left = a * size;
     let right = x.2 * size;
     let c = j * size;

@@ -1,77 +1,102 @@
-// What a call works out once: the counts, and tables of the case that the recursion over nodes looks things up in.
+// What a call works out once: one table of words, in which the recursion over nodes looks things up. It is lent, not copied.
 ghost use mathlib.Core.Path.{_≡_};
-ghost use Prim.Native.Nat.{_+_, _*_, _<_};
+ghost use Prim.Native.Nat.{ℕ, _+_, _*_, _≤_, _<_};
 ghost use lib.ListN.{length, getD};
 ghost use Rattle.case_model.specs.Case.{read};
 ghost use Rattle.case_model.proofs.Valid.{Valid};
-ghost use Rattle.judge.specs.Plans.{Planned};
-use crate::scopes::masks;
+ghost use Rattle.judge.specs.Tables.{Filled, scopesFrom};
+ghost use Rattle.judge.specs.Plans.{decoded, Planned};
 use crate::scopes::unreached;
 use crate::sets::homes;
 use crate::sets::props;
 use crate::sets::sources;
+use case_reader::masks;
 
-pub(crate) struct Plan {
-    // n, 2^n, and the rounds after which approximants stand still
-    pub states: usize,
-    pub size: usize,
-    pub limit: usize,
-    // for each node: its free variables as a mask, and 0 if the root reaches it
-    pub frees: [u16; 64],
-    pub unreached: [u32; 64],
-    // for each variable: its binder
-    pub homes: [usize; 16],
-    // for each proposition: the states that have it; for each action a and state t, at 16a + t: the states with an a-step to t
-    pub props: [u16; 8],
-    pub sources: [u16; 128],
-}
+// The places in it: n.
+pub(crate) const STATES: usize = 0;
 
-impl Plan {
-    // The plan of an accepted case.
-    pub(crate) fn new(file: &[u8], states: usize, nodes: usize) -> Plan
-        requires { ⌜ Valid (read (now file)) × (states ≡ length (read (now file) .labels)) × (nodes ≡ length (read (now file) .nodes)) ⌝ }
-        ensures { λ r. ⌜ Planned (read (now (file .entry))) r ⌝ }
-    {
-        let size = 1usize << states;
-        let frees = masks(file, nodes);
-        let unreached = unreached(file);
-        let homes = homes(file, nodes);
-        let props = props(file, states);
-        let sources = sources(file);
-        Plan {
-            states,
-            size,
-            limit: states * size,
-            frees,
-            unreached,
-            homes,
-            props,
-            sources,
-        }
+// 2^n.
+pub(crate) const SIZE: usize = 1;
+
+// The rounds after which approximants stand still.
+pub(crate) const LIMIT: usize = 2;
+
+// For each node: what it depends on.
+pub(crate) const SCOPES: usize = 3;
+
+// For each variable: its binder.
+pub(crate) const HOMES: usize = 67;
+
+// For each proposition: the states that have it.
+pub(crate) const PROPS: usize = 83;
+
+// For each action a and state t, at 16a + t: the states with an a-step to t.
+pub(crate) const SOURCES: usize = 91;
+
+pub(crate) type Plan = [usize; 219];
+
+// The free variables as a mask, a mark that each node has, and the mark of a node that the root does not reach.
+fn put_scopes(plan: &mut Plan, frees: [u16; 64], unreached: [u32; 64])
+    requires { ⌜ (length (now plan) ≡ 219) × ((j : ℕ) → j < 64 → getD unreached j 0 ≤ 131072) ⌝ }
+    ensures { λ _. ⌜ Filled (now (plan .entry)) (now (plan .exit)) 3 64 (scopesFrom frees unreached) ⌝ }
+{
+    for j in 0..64 {
+        plan[SCOPES + j] = frees[j] as usize + 65536 + unreached[j] as usize;
     }
 }
 
-// The states that have proposition i.
-pub(crate) fn prop(plan: Plan, i: usize) -> u16
-    requires { ⌜ i < 8 ⌝ }
-    ensures { λ r. ⌜ r ≡ getD (plan .props) i 0 ⌝ }
+// A part of the plan, from a base on.
+fn put(plan: &mut Plan, base: usize, part: &[usize])
+    requires { ⌜ (length (now plan) ≡ 219) × (base + length (now part) ≤ 219) ⌝ }
+    ensures { λ _. ⌜ Filled (now (plan .entry)) (now (plan .exit)) base (length (now (part .entry))) (λ i. getD (now (part .entry)) i 0) ⌝ }
 {
-    plan.props[i]
+    for i in 0..part.len() {
+        plan[base + i] = part[i];
+    }
+}
+
+// The plan of an accepted case.
+pub(crate) fn plan(file: &[u8], states: usize, nodes: usize) -> Plan
+    requires { ⌜ Valid (read (now file)) × (states ≡ length (read (now file) .labels)) × (nodes ≡ length (read (now file) .nodes)) ⌝ }
+    ensures { λ r. ⌜ Planned (read (now (file .entry))) (decoded r) ⌝ }
+{
+    let size = 1usize << states;
+    let frees = masks(file);
+    let unreached = unreached(file);
+    let homes = homes(file, nodes);
+    let props = props(file, states);
+    let sources = sources(file);
+    let mut plan = [0usize; 219];
+    plan[STATES] = states;
+    plan[SIZE] = size;
+    plan[LIMIT] = states * size;
+    put_scopes(&mut plan, frees, unreached);
+    put(&mut plan, HOMES, &homes);
+    put(&mut plan, PROPS, &props);
+    put(&mut plan, SOURCES, &sources);
+    plan
+}
+
+// The states that have proposition i.
+pub(crate) fn prop(plan: &Plan, i: usize) -> u16
+    requires { ⌜ (i < 8) × (decoded (now plan) .props i < 65536) ⌝ }
+    ensures { λ r. ⌜ r ≡ decoded (now (plan .entry)) .props i ⌝ }
+{
+    plan[PROPS + i] as u16
 }
 
 // The binder of variable v.
-pub(crate) fn binder(plan: Plan, v: usize) -> usize
+pub(crate) fn binder(plan: &Plan, v: usize) -> usize
     requires { ⌜ v < 16 ⌝ }
-    ensures { λ r. ⌜ r ≡ getD (plan .homes) v 0 ⌝ }
+    ensures { λ r. ⌜ r ≡ decoded (now (plan .entry)) .homes v ⌝ }
 {
-    plan.homes[v]
+    plan[HOMES + v]
 }
 
 // The states with an a-step to t.
-pub(crate) fn source(plan: Plan, a: usize, t: usize) -> u16
-    requires { ⌜ (a < 8) × (t < 16) ⌝ }
-    ensures { λ r. ⌜ r ≡ getD (plan .sources) (16 * a + t) 0 ⌝ }
+pub(crate) fn source(plan: &Plan, a: usize, t: usize) -> u16
+    requires { ⌜ (a < 8) × (t < 16) × (decoded (now plan) .sources (16 * a + t) < 65536) ⌝ }
+    ensures { λ r. ⌜ r ≡ decoded (now (plan .entry)) .sources (16 * a + t) ⌝ }
 {
-    let at = 16 * a + t;
-    plan.sources[at]
+    plan[SOURCES + (16 * a + t)] as u16
 }

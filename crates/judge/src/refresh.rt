@@ -1,22 +1,27 @@
 // Tables of all nodes, by recursion over nodes with the number falling; binders by approximants.
 ghost use mathlib.Core.Bool.{cond};
 ghost use mathlib.Core.Path.{_≡_};
-ghost use Prim.Native.Nat.{_-_, _^_, _≤_, _<_};
+ghost use Prim.Native.Nat.{_+_, _-_, _^_, _≤_, _<_};
 ghost use lib.Dec.{eqb};
+ghost use lib.ListN.{length};
 ghost use Rattle.case_model.specs.Case.{read};
-ghost use Rattle.judge.specs.Plans.{scope, Ready, Refreshed, Computable, Computed};
+ghost use Rattle.judge.specs.Tables.{Filled, from};
+ghost use Rattle.judge.specs.Plans.{decoded, scope, Ready, Refreshed, Computable, Computed};
 use crate::nodes::fill;
+use crate::plan::LIMIT;
 use crate::plan::Plan;
+use crate::plan::SCOPES;
+use crate::plan::SIZE;
 use crate::tables::advance;
 use crate::tables::constant;
-use case_file::node;
+use case_reader::node;
 
 // What node j depends on.
-fn scope(plan: Plan, j: usize) -> u32
-    requires { ⌜ (j < 64) × (scope plan j < 2 ^ 18) ⌝ }
-    ensures { λ r. ⌜ r ≡ scope plan j ⌝ }
+fn scope(plan: &Plan, j: usize) -> u32
+    requires { ⌜ (j < 64) × (scope (decoded (now plan)) j < 2 ^ 18) ⌝ }
+    ensures { λ r. ⌜ r ≡ scope (decoded (now (plan .entry))) j ⌝ }
 {
-    plan.frees[j] as u32 + 65536 + plan.unreached[j]
+    plan[SCOPES + j] as u32
 }
 
 // The set of one variable.
@@ -27,7 +32,7 @@ fn variable(v: usize) -> u32
     1u32 << v
 }
 
-// What the approximants of a binder begin with: no states for μ, all for ν.
+// The value of approximant 0: no states for μ, all for ν.
 fn start(kind: usize, size: usize) -> u16
     requires { ⌜ (1 ≤ size) × (size ≤ 65536) ⌝ }
     ensures { λ r. ⌜ r ≡ cond (eqb kind 11) 0 (size - 1) ⌝ }
@@ -35,16 +40,36 @@ fn start(kind: usize, size: usize) -> u16
     if kind == 11 { 0 } else { (size - 1) as u16 }
 }
 
+// The table that a binder begins with: its old one if only a binder of the same kind has moved since, else approximant 0.
+fn begin(work: &mut [u16], size: usize, here: usize, kind: usize, grown: usize)
+    requires { ⌜ (1 ≤ size) × (size ≤ 65536) × (here + size ≤ length (now work)) ⌝ }
+    ensures { λ _. ⌜ Filled (now (work .entry)) (now (work .exit)) here size (λ x. cond (eqb kind grown) (from (now (work .entry)) here x) (cond (eqb kind 11) 0 (size - 1))) ⌝ }
+{
+    if kind == grown {
+        return;
+    }
+    constant(work, size, here, start(kind, size));
+}
+
 // Computes the nodes below k that depend only on what is in `act`, and not only on what is in `old`.
-pub(crate) fn refresh(work: &mut [u16], file: &[u8], plan: Plan, k: usize, old: u32, act: u32)
-    requires { ⌜ Ready (read (now file)) plan (now work) k act ⌝ }
-    ensures { λ _. ⌜ Refreshed (read (now (file .entry))) plan (now (work .entry)) (now (work .exit)) k old act ⌝ }
+// `grown` is the kind of the binder whose table alone has moved, in its own direction, since they were last computed; 0 if they start anew.
+pub(crate) fn refresh(
+    work: &mut [u16],
+    file: &[u8],
+    plan: &Plan,
+    k: usize,
+    old: u32,
+    act: u32,
+    grown: usize,
+)
+    requires { ⌜ Ready (read (now file)) (decoded (now plan)) (now work) k act ⌝ }
+    ensures { λ _. ⌜ Refreshed (read (now (file .entry))) (decoded (now (plan .entry))) (now (work .entry)) (now (work .exit)) k old act grown ⌝ }
 {
     if k == 0 {
         return;
     }
     let j = k - 1;
-    refresh(work, file, plan, j, old, act);
+    refresh(work, file, plan, j, old, act, grown);
     let u = scope(plan, j);
     let in_act = u | act;
     if in_act != act {
@@ -54,13 +79,21 @@ pub(crate) fn refresh(work: &mut [u16], file: &[u8], plan: Plan, k: usize, old: 
     if in_old == old {
         return;
     }
-    compute(work, file, plan, j, act);
+    compute(work, file, plan, j, act, grown);
 }
 
 // Computes node j from the lower ones. A binder's approximants follow each other until one is as the last; the answer is how many it took.
-pub(crate) fn compute(work: &mut [u16], file: &[u8], plan: Plan, j: usize, act: u32) -> usize
-    requires { ⌜ Computable (read (now file)) plan (now work) j act ⌝ }
-    ensures { λ r. ⌜ Computed (read (now (file .entry))) plan (now (work .entry)) (now (work .exit)) j act r ⌝ }
+// A binder within it starts anew in the first round, and then goes on from its old table if it is of the same kind.
+pub(crate) fn compute(
+    work: &mut [u16],
+    file: &[u8],
+    plan: &Plan,
+    j: usize,
+    act: u32,
+    grown: usize,
+) -> usize
+    requires { ⌜ Computable (read (now file)) (decoded (now plan)) (now work) j act ⌝ }
+    ensures { λ r. ⌜ Computed (read (now (file .entry))) (decoded (now (plan .entry))) (now (work .entry)) (now (work .exit)) j act grown r ⌝ }
 {
     let x = node(file, j);
     let kind = x.0;
@@ -68,19 +101,21 @@ pub(crate) fn compute(work: &mut [u16], file: &[u8], plan: Plan, j: usize, act: 
         fill(work, file, plan, j);
         return 0;
     }
-    let size = plan.size;
-    let limit = plan.limit;
+    let size = plan[SIZE];
+    let limit = plan[LIMIT];
     let here = j * size;
     let body = x.2 * size;
     let wide = act | variable(x.1);
-    constant(work, size, here, start(kind, size));
+    begin(work, size, here, kind, grown);
     let mut r: usize = 0;
+    let mut moved: usize = 0;
     while r < limit {
-        refresh(work, file, plan, j, act, wide);
+        refresh(work, file, plan, j, act, wide, moved);
         let change = advance(work, size, body, here);
         if change == 0 {
             return r;
         }
+        moved = kind;
         r += 1;
     }
     r

@@ -8,11 +8,11 @@ ghost use Rattle.flc.specs.Sets.{has, setOf};
 ghost use Rattle.case_model.specs.Case.{read};
 ghost use Rattle.case_model.proofs.Valid.{Valid};
 ghost use Rattle.judge.specs.Plans.{Housed, Labelled, Sourced};
-use case_file::Triple;
-use case_file::label;
-use case_file::node;
-use case_file::step;
-use case_file::step_count;
+use case_reader::Triple;
+use case_reader::label;
+use case_reader::node;
+use case_reader::step;
+use case_reader::step_count;
 
 // Bit i of a label.
 fn bit(label: usize, i: usize) -> u16
@@ -37,31 +37,31 @@ fn labelled(file: &[u8], states: usize, i: usize) -> u16
 }
 
 // Those of each proposition.
-pub(crate) fn props(file: &[u8], states: usize) -> [u16; 8]
+pub(crate) fn props(file: &[u8], states: usize) -> [usize; 8]
     requires { ⌜ states ≤ 16 ⌝ }
     ensures { λ r. ⌜ Labelled (read (now (file .entry))) states 8 r ⌝ }
 {
-    let mut t = [0u16; 8];
+    let mut t = [0usize; 8];
     for i in 0..8 {
-        t[i] = labelled(file, states, i);
+        t[i] = labelled(file, states, i) as usize;
     }
     t
 }
 
 // The set of one state.
-fn state(s: usize) -> u16
+fn state(s: usize) -> usize
     requires { ⌜ s < 16 ⌝ }
     ensures { λ r. ⌜ r ≡ 2 ^ s ⌝ }
 {
-    1u16 << s
+    1usize << s
 }
 
 // For each action a and state e, at 16a + e, the states with an a-step to e.
-pub(crate) fn sources(file: &[u8]) -> [u16; 128]
+pub(crate) fn sources(file: &[u8]) -> [usize; 128]
     requires { ⌜ Valid (read (now file)) ⌝ }
     ensures { λ r. ⌜ Sourced (length (read (now (file .entry)) .labels)) (read (now (file .entry)) .steps) r ⌝ }
 {
-    let mut t = [0u16; 128];
+    let mut t = [0usize; 128];
     let mut i = step_count(file);
     while 0 < i {
         i -= 1;

@@ -1,10 +1,11 @@
 -- `judge::entry::judge` meets its contract: vetting refuses as it says, then rows 8 and 9, and else the area is cleared after the answer.
 use Prim.Native.Nat.{_*_, _%_, _^_, _≤_, _<_}
 use mathlib.Core.Path.{_≡_, refl, sym, ap, ap₂, _∙_, subst}
-use native.Mathlib.Nat.{mul-le-mul-right}
+use native.Mathlib.Nat.{mul-assoc, mul-le-mul-right}
 use native.Mathlib.Omega.{arith}
 use lib.ListN.{length, replicate}
 use lib.Pow.{pow-mono}
+use lib.Seq.{length-take-le}
 use Rattle.case_file.specs.Told.{number, refusalOf}
 use Rattle.case_file.specs.declared.reason.Refusal.{Refusal}
 use Rattle.case_model.specs.Case.{read}
@@ -110,8 +111,8 @@ returns-3 c =
     let j = judging-short f (st .args .set) (length w) (a .found) inside (subst (λ k. length w < k) area (c .if2 .taken)) in
     (sym j, subst (λ R. w ≡ cleared R w) (sym j) refl)
 
-new-requires-2 : tie.Need-new-requires-2
-new-requires-2 c κs =
+plan-requires : tie.Need-plan-requires
+plan-requires c κs =
     let st = c .before .before .before .before .before .before .before .before .before .before in
     let f = st .args .file .now in
     let w = st .args .work .now in
@@ -123,44 +124,62 @@ new-requires-2 c κs =
     let s = z ∙ ap (λ n. 2 ^ n) n in
     (a .valid, n, m)
 
-answer-requires : tie.Need-answer-requires
-answer-requires c κs =
-    let st = c .before .before .before .before .before .before .before .before .before .before .before .before in
+mul-answer : tie.Need-mul-answer
+mul-answer c =
+    let st = c .before .before .before .before .before .before .before .before .before .before .before in
     let f = st .args .file .now in
     let w = st .args .work .now in
-    let a = accepted f _ (c .before .before .before .before .before .before .before .before .before .new .ensures) (c .before .before .before .before .before .before .before .vetted .given .1) in
-    let n = c .before .before .before .before .before .states .ensures ∙ a .states in
-    let m = c .before .before .before .before .nodes .ensures ∙ a .nodes in
+    let a = accepted f _ (c .before .before .before .before .before .before .before .before .new .ensures) (c .before .before .before .before .before .before .vetted .given .1) in
+    let n = c .before .before .before .before .states .ensures ∙ a .states in
+    let m = c .before .before .before .nodes .ensures ∙ a .nodes in
     let few = a .valid .few in
-    let z = power (c .before .before .before .before .before .states .result) (omega arith) in
+    let z = power (c .before .before .before .before .states .result) (omega arith) in
     let s = z ∙ ap (λ n. 2 ^ n) n in
-    let inside : st .args .set < 2 ^ length (read f .labels) = subst (λ k. st .args .set < k) s (omega (arith, c .before .before .before .if1 .left)) in
-    let area = ap₂ (λ m k. 2 * m * k) m s in
-    let P = c .before .new2 .ensures in
-    let enough = subst (λ k. k ≤ length w) area (omega (arith, c .before .before .if2 .left)) in
-    asked P inside enough
+    omega (arith, mul-le-mul-right {m = c .before .before .before .nodes .result} {n = 64} ((1 * 2 ^ c .before .before .before .before .states .result) % 2 ^ 64) (omega (arith, a .valid .most)), pow-mono {i = c .before .before .before .before .states .result} {j = 16} (omega arith))
+
+slice-relend-prefix-answer : tie.Need-slice-relend-prefix-answer
+slice-relend-prefix-answer c = omega (arith, c .before .if2 .left, mul-assoc 2 (c .before .before .before .nodes .result) ((1 * 2 ^ c .before .before .before .before .states .result) % 2 ^ 64))
+
+slice-aggregate-answer : tie.Need-slice-aggregate-answer
+slice-aggregate-answer c = sym (length-take-le _ (c .before .before .before .before .before .before .before .before .before .before .before .before .args .work .now) (omega (arith, c .before .before .if2 .left, mul-assoc 2 (c .before .before .before .before .nodes .result) ((1 * 2 ^ c .before .before .before .before .before .states .result) % 2 ^ 64))))
+
+answer-requires : tie.Need-answer-requires
+answer-requires c κs =
+    let st = c .before .before .before .before .before .before .before .before .before .before .before .before .before in
+    let f = st .args .file .now in
+    let w = st .args .work .now in
+    let a = accepted f _ (c .before .before .before .before .before .before .before .before .before .before .new .ensures) (c .before .before .before .before .before .before .before .before .vetted .given .1) in
+    let n = c .before .before .before .before .before .before .states .ensures ∙ a .states in
+    let m = c .before .before .before .before .before .nodes .ensures ∙ a .nodes in
+    let few = a .valid .few in
+    let z = power (c .before .before .before .before .before .before .states .result) (omega arith) in
+    let s = z ∙ ap (λ n. 2 ^ n) n in
+    let inside : st .args .set < 2 ^ length (read f .labels) = subst (λ k. st .args .set < k) s (omega (arith, c .before .before .before .before .if1 .left)) in
+    let size = (1 * 2 ^ c .before .before .before .before .before .before .states .result) % 2 ^ 64 in
+    let long = length-take-le (c .before .before .before .before .before .nodes .result * size) w (omega (arith, c .before .before .before .if2 .left, mul-assoc 2 (c .before .before .before .before .before .nodes .result) size)) in
+    asked (c .before .before .plan .ensures) inside (omega (arith, long, ap₂ (λ m k. m * k) m s))
 
 constant-requires : tie.Need-constant-requires
-constant-requires c κs = search needs
+constant-requires c κs = omega (arith, c .before .before .work .given .1)
 
 same-length : tie.Need-same-length
-same-length c = search needs
+same-length c = c .before .before .constant .ensures .long ∙ c .before .before .before .before .before .work .given .1
 
 returns-4 : tie.Need-returns-4
 returns-4 c =
-    let st = c .before .before .before .before .before .before .before .before .before .before .before .before .before .before .before .before .before .before .before in
+    let st = c .before .before .before .before .before .before .before .before .before .before .before .before .before .before .before .before .before .before .before .before in
     let f = st .args .file .now in
     let w = st .args .work .now in
-    let a = accepted f _ (c .before .before .before .before .before .before .before .before .before .before .before .before .before .before .before .before .new .ensures) (c .before .before .before .before .before .before .before .before .before .before .before .before .before .before .vetted .given .1) in
-    let n = c .before .before .before .before .before .before .before .before .before .before .before .before .states .ensures ∙ a .states in
-    let m = c .before .before .before .before .before .before .before .before .before .before .before .nodes .ensures ∙ a .nodes in
+    let a = accepted f _ (c .before .before .before .before .before .before .before .before .before .before .before .before .before .before .before .before .before .new .ensures) (c .before .before .before .before .before .before .before .before .before .before .before .before .before .before .before .vetted .given .1) in
+    let n = c .before .before .before .before .before .before .before .before .before .before .before .before .before .states .ensures ∙ a .states in
+    let m = c .before .before .before .before .before .before .before .before .before .before .before .before .nodes .ensures ∙ a .nodes in
     let few = a .valid .few in
-    let z = power (c .before .before .before .before .before .before .before .before .before .before .before .before .states .result) (omega arith) in
+    let z = power (c .before .before .before .before .before .before .before .before .before .before .before .before .before .states .result) (omega arith) in
     let s = z ∙ ap (λ n. 2 ^ n) n in
-    let inside : st .args .set < 2 ^ length (read f .labels) = subst (λ k. st .args .set < k) s (omega (arith, c .before .before .before .before .before .before .before .before .before .before .if1 .left)) in
+    let inside : st .args .set < 2 ^ length (read f .labels) = subst (λ k. st .args .set < k) s (omega (arith, c .before .before .before .before .before .before .before .before .before .before .before .if1 .left)) in
     let area = ap₂ (λ m k. 2 * m * k) m s in
-    let j = judging-answers f (st .args .set) (length w) (a .found) inside (subst (λ k. k ≤ length w) area (omega (arith, c .before .before .before .before .before .before .before .before .before .if2 .left))) in
-    let long = c .before .before .before .before .before .before .answer .kept .0 in (
+    let j = judging-answers f (st .args .set) (length w) (a .found) inside (subst (λ k. k ≤ length w) area (omega (arith, c .before .before .before .before .before .before .before .before .before .before .if2 .left))) in
+    let long = c .before .before .before .before .before .work .given .1 in (
       ap answers (c .before .before .before .before .before .before .answer .ensures) ∙ sym j,
       subst (λ R. c .before .before .constant .last .0 ≡ cleared R w) (sym j) (zeroed (length w) (sym long) (c .before .before .constant .ensures) ∙ ap (λ n. replicate n 0) long),
     )
@@ -181,7 +200,10 @@ judge-spec =
     mul-if2
     mul-if2-2
     returns-3
-    new-requires-2
+    plan-requires
+    mul-answer
+    slice-relend-prefix-answer
+    slice-aggregate-answer
     answer-requires
     constant-requires
     same-length

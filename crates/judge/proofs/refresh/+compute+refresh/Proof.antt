@@ -1,5 +1,5 @@
 -- `judge::refresh::refresh` and `judge::refresh::compute` meet their contracts, by recursion over nodes: 2k falls to 2j + 1, and that to 2j, for j below k.
--- The loop's invariant says that the binder's block is approximant r, and that none before was as its next.
+-- The loop's invariant says that the binder's block is iterate r of what it began with, that none before was as its next, and that the lower blocks are those of the last.
 use Prim.Native.Nat.{ℕ, suc, _+_, _-_, _<_}
 use mathlib.Core.Path.{_≡_, sym, ap, _∙_, subst}
 use native.Mathlib.Nat.{mul-le-mul-right}
@@ -7,11 +7,11 @@ use native.Mathlib.Omega.{arith}
 use lib.Bits.{bitOr}
 use lib.Dec.{eqb}
 use Rattle.case_model.specs.Case.{read}
-use Rattle.judge.specs.Plans.{Ready, Refreshed}
+use Rattle.judge.specs.Plans.{decoded, Ready, Refreshed}
 use Rattle.judge.proofs.Values.{size-some}
 use Rattle.judge.proofs.Refreshing.{not-zero, refresh-none, ready-down, skip-out, skip-old, computable, one-more, fillable, computed-plain}
 use Rattle.judge.proofs.Approximating.{Turning, wide-ready}
-use Rattle.judge.proofs.Settling.{plain-kind, Bound, bound, start-low, restart, turning-start, turning-again, settled-early, settled-late}
+use Rattle.judge.proofs.Settling.{plain-kind, Bound, bound, restart, turning-start, turning-again, settled-early, settled-late}
 use borrow.Author.Needs.{needs}
 use borrow.Fn.Kinds.{In}
 use borrow.Fn.PlainCycle.{Measures, is, falls, and}
@@ -21,43 +21,42 @@ use Rattle.judge.proofs.refresh.+compute+refresh.Lts-compute as compute
 use Rattle.judge.proofs.refresh.refresh.Reads as refresh
 use Rattle.judge.proofs.refresh.refresh.Kinds as refresh-kinds
 use Rattle.judge.proofs.refresh.+compute+refresh.Lts-refresh as refresh-lts
-use Rattle.case_file.proofs.node.Reads as node-reads
+use Rattle.case_reader.proofs.node.Reads as node-reads
 use Rattle.judge.proofs.nodes.fill.Reads as fill-reads
+use Rattle.judge.proofs.refresh.begin.Reads as begin-reads
 use Rattle.judge.proofs.refresh.scope.Reads as scope-reads
-use Rattle.judge.proofs.refresh.start.Reads as start-reads
 use Rattle.judge.proofs.refresh.variable.Reads as variable-reads
 use Rattle.judge.proofs.tables.advance.Reads as advance-reads
-use Rattle.judge.proofs.tables.constant.Reads as constant-reads
 use Rattle.judge.proofs.refresh.+compute+refresh.{statement}
 use Rattle.judge.proofs.refresh.+compute+refresh.Tie.{close}
 
-abbrev μ-compute : Measures 2 compute-kinds.ps ℕ
+abbrev μ-compute : Measures 3 compute-kinds.ps ℕ
 μ-compute κs a = a .1 .1 .1 .0 + a .1 .1 .1 .0 + 1
 
-abbrev μ-refresh : Measures 2 refresh-kinds.ps ℕ
+abbrev μ-refresh : Measures 3 refresh-kinds.ps ℕ
 μ-refresh κs a = a .1 .1 .1 .0 + a .1 .1 .1 .0
 
-abbrev compute-at : ℕ → In 2 compute-kinds.ps
-compute-at t = and 2 compute-kinds.ps (is 2 compute-kinds.ps μ-compute t) compute.Pre
+abbrev compute-at : ℕ → In 3 compute-kinds.ps
+compute-at t = and 3 compute-kinds.ps (is 3 compute-kinds.ps μ-compute t) compute.Pre
 
-abbrev compute-below : ℕ → In 2 compute-kinds.ps
-compute-below t = and 2 compute-kinds.ps (falls 2 compute-kinds.ps _<_ μ-compute t) compute.Pre
+abbrev compute-below : ℕ → In 3 compute-kinds.ps
+compute-below t = and 3 compute-kinds.ps (falls 3 compute-kinds.ps _<_ μ-compute t) compute.Pre
 
-abbrev refresh-at : ℕ → In 2 refresh-kinds.ps
-refresh-at t = and 2 refresh-kinds.ps (is 2 refresh-kinds.ps μ-refresh t) refresh.Pre
+abbrev refresh-at : ℕ → In 3 refresh-kinds.ps
+refresh-at t = and 3 refresh-kinds.ps (is 3 refresh-kinds.ps μ-refresh t) refresh.Pre
 
-abbrev refresh-below : ℕ → In 2 refresh-kinds.ps
-refresh-below t = and 2 refresh-kinds.ps (falls 2 refresh-kinds.ps _<_ μ-refresh t) refresh.Pre
+abbrev refresh-below : ℕ → In 3 refresh-kinds.ps
+refresh-below t = and 3 refresh-kinds.ps (falls 3 refresh-kinds.ps _<_ μ-refresh t) refresh.Pre
 
 abbrev compute-claims : ℕ → compute-lts.Claims
-compute-claims t = (node-reads.Asked, node-reads.Learnt, fill-reads.Asked, fill-reads.Learnt, variable-reads.Asked, variable-reads.Learnt, start-reads.Asked, start-reads.Learnt, constant-reads.Asked, constant-reads.Learnt, refresh-below t, refresh.Post, advance-reads.Asked, advance-reads.Learnt)
+compute-claims t = (node-reads.Asked, node-reads.Learnt, fill-reads.Asked, fill-reads.Learnt, variable-reads.Asked, variable-reads.Learnt, begin-reads.Asked, begin-reads.Learnt, refresh-below t, refresh.Post, advance-reads.Asked, advance-reads.Learnt)
 
 abbrev compute-Inv-loop : compute-lts.InvT-loop
-compute-Inv-loop work₀ file plan j act kind size limit here body wide r₀ work r =
-    Turning (read file) plan work₀ work j act r
+compute-Inv-loop work₀ file plan j act grown kind size limit here body wide r₀ moved₀ work r moved =
+    Turning (read file) (decoded plan) work₀ work j act r moved
 
 abbrev compute-μ-loop : compute-lts.MeasureT-loop
-compute-μ-loop work₀ file plan j act kind size limit here body wide r₀ work r = limit - r
+compute-μ-loop work₀ file plan j act grown kind size limit here body wide r₀ moved₀ work r moved = limit - r
 
 compute-node-requires : (t : ℕ) → compute-lts.Need-node-requires (compute-claims t) (compute-at t) compute.Post compute-Inv-loop compute-μ-loop
 compute-node-requires t c κs = search needs
@@ -69,108 +68,105 @@ compute-same-length : (t : ℕ) → compute-lts.Need-same-length (compute-claims
 compute-same-length t c = c .before .before .fill .ensures .long
 
 compute-returns : (t : ℕ) → compute-lts.Need-returns (compute-claims t) (compute-at t) compute.Post compute-Inv-loop compute-μ-loop
-compute-returns t c = computed-plain (c .before .before .before .before .before .before .before .before .pre .1) (plain-kind (read (c .before .before .before .before .before .before .before .before .args .file .now)) (c .before .before .before .before .before .before .before .before .args .j) (c .before .before .before .before .before .node .ensures) (c .before .before .before .before .if1 .taken)) (c .before .before .fill .ensures)
+compute-returns t c = computed-plain (c .before .before .before .before .before .before .before .before .pre .1) (plain-kind (read (c .before .before .before .before .before .before .before .before .args .file .now)) (c .before .before .before .before .before .before .before .before .args .j) (c .before .before .before .before .before .node .ensures) (c .before .before .before .before .if1 .taken)) (c .before .before .fill .ensures) (c .before .before .before .before .before .before .before .before .args .grown)
 
 -- what is known of the node once it is a binder
 binder-at : (t : ℕ) (c : compute-lts.Else1 (compute-claims t) (compute-at t) compute.Post compute-Inv-loop compute-μ-loop)
-    → Bound (read (c .before .before .before .before .args .file .now)) (c .before .before .before .before .args .plan) (c .before .before .before .before .args .work .now) (c .before .before .before .before .args .j) (c .before .node .result)
+    → Bound (read (c .before .before .before .before .args .file .now)) (decoded (c .before .before .before .before .args .plan .now)) (c .before .before .before .before .args .work .now) (c .before .before .before .before .args .j) (c .before .node .result)
 binder-at t c = bound (c .before .before .before .before .pre .1) (c .before .node .ensures) (c .if1 .left)
 
+compute-element-copy-out-size : (t : ℕ) → compute-lts.Need-element-copy-out-size (compute-claims t) (compute-at t) compute.Post compute-Inv-loop compute-μ-loop
+compute-element-copy-out-size t c = search needs
+
+compute-element-copy-out-limit : (t : ℕ) → compute-lts.Need-element-copy-out-limit (compute-claims t) (compute-at t) compute.Post compute-Inv-loop compute-μ-loop
+compute-element-copy-out-limit t c = search needs
+
 compute-mul-here : (t : ℕ) → compute-lts.Need-mul-here (compute-claims t) (compute-at t) compute.Post compute-Inv-loop compute-μ-loop
-compute-mul-here t c = omega (arith, binder-at t (c))
+compute-mul-here t c = omega (arith, binder-at t (c .before .before))
 
 compute-mul-body : (t : ℕ) → compute-lts.Need-mul-body (compute-claims t) (compute-at t) compute.Post compute-Inv-loop compute-μ-loop
-compute-mul-body t c = omega (arith, binder-at t (c .before))
+compute-mul-body t c = omega (arith, binder-at t (c .before .before .before))
 
 compute-variable-requires : (t : ℕ) → compute-lts.Need-variable-requires (compute-claims t) (compute-at t) compute.Post compute-Inv-loop compute-μ-loop
-compute-variable-requires t c κs = binder-at t (c .before) .variable
+compute-variable-requires t c κs = binder-at t (c .before .before .before) .variable
 
-compute-start-requires : (t : ℕ) → compute-lts.Need-start-requires (compute-claims t) (compute-at t) compute.Post compute-Inv-loop compute-μ-loop
-compute-start-requires t c κs = let b = binder-at t (c .before .before .before) in (b .some, b .most)
-
-compute-constant-requires : (t : ℕ) → compute-lts.Need-constant-requires (compute-claims t) (compute-at t) compute.Post compute-Inv-loop compute-μ-loop
-compute-constant-requires t c κs = omega (arith, binder-at t (c .before .before .before .before))
+compute-begin-requires : (t : ℕ) → compute-lts.Need-begin-requires (compute-claims t) (compute-at t) compute.Post compute-Inv-loop compute-μ-loop
+compute-begin-requires t c κs = let b = binder-at t (c .before .before .before .before .before) in (b .some, b .most, b .here)
 
 compute-loop-holds : (t : ℕ) → compute-lts.Need-loop-holds (compute-claims t) (compute-at t) compute.Post compute-Inv-loop compute-μ-loop
 compute-loop-holds t c =
-    let st = c .before .before .before .before .before .before .before .before .before .before .before in
+    let st = c .before .before .before .before .before .before .before .before .before .before .before .before in
     let C = st .pre .1 in
-    let x = c .before .before .before .before .before .before .before .before .node .result in
-    let b = binder-at t (c .before .before .before .before .before .before .before) in
-    let F = c .before .before .constant .ensures in
-    let low = start-low (x .0) (st .args .plan .size) (b .some) (c .before .before .before .start .ensures) in
-    turning-start C F low (eqb (x .0) 11) (x .1) (x .2) (b .is) (c .before .before .before .start .ensures)
+    let x = c .before .before .before .before .before .before .before .before .before .node .result in
+    let F = c .before .before .begin .ensures in
+    turning-start (x .0) (st .args .grown) C F
 
 compute-refresh-requires : (t : ℕ) → compute-lts.Need-refresh-requires (compute-claims t) (compute-at t) compute.Post compute-Inv-loop compute-μ-loop
 compute-refresh-requires t c κs =
-    let st = c .before .before .before .before .before .before .before .before .before .before .before .before .before .before in
+    let st = c .before .before .before .before .before .before .before .before .before .before .before .before .before .before .before in
     let C = st .pre .1 in
-    let x = c .before .before .before .before .before .before .before .before .before .before .before .node .result in
-    let b = binder-at t (c .before .before .before .before .before .before .before .before .before .before) in
-    let F = c .before .before .before .before .before .constant .ensures in
-    let low = start-low (x .0) (st .args .plan .size) (b .some) (c .before .before .before .before .before .before .start .ensures) in (
+    let x = c .before .before .before .before .before .before .before .before .before .before .before .before .node .result in
+    let b = binder-at t (c .before .before .before .before .before .before .before .before .before .before .before) in
+    let F = c .before .before .before .before .before .begin .ensures in (
       omega (arith, st .pre .0),
-      subst (λ m. Ready (read (st .args .file .now)) (st .args .plan) (c .before .before .loop .work) (st .args .j) (bitOr (st .args .act) m)) (sym (c .before .before .before .before .before .before .before .before .variable .ensures))
-          (wide-ready (restart C F low) (eqb (x .0) 11) (x .1) (x .2) (b .is) (c .before .before .loop .inv .kept)),
+      subst (λ m. Ready (read (st .args .file .now)) (decoded (st .args .plan .now)) (c .before .before .loop .work) (st .args .j) (bitOr (st .args .act) m)) (sym (c .before .before .before .before .before .before .before .variable .ensures))
+          (wide-ready (restart (x .0) (st .args .grown) C F) (eqb (x .0) 11) (x .1) (x .2) (b .is) (c .before .before .loop .inv .kept)),
     )
 
 compute-advance-requires : (t : ℕ) → compute-lts.Need-advance-requires (compute-claims t) (compute-at t) compute.Post compute-Inv-loop compute-μ-loop
 compute-advance-requires t c κs =
-    let b = binder-at t (c .before .before .before .before .before .before .before .before .before .before .before .before .before .before) in
-    (b .under, omega (arith, b .here, c .before .before .before .refresh .ensures .kept .long, c .before .before .before .before .before .before .loop .inv .kept .long, c .before .before .before .before .before .before .before .before .before .constant .ensures .long))
+    let b = binder-at t (c .before .before .before .before .before .before .before .before .before .before .before .before .before .before .before) in
+    (b .under, omega (arith, b .here, c .before .before .before .refresh .ensures .kept .long, c .before .before .before .before .before .before .loop .inv .kept .long, c .before .before .before .before .before .before .before .before .before .begin .ensures .long))
 
 compute-same-length-2 : (t : ℕ) → compute-lts.Need-same-length-2 (compute-claims t) (compute-at t) compute.Post compute-Inv-loop compute-μ-loop
-compute-same-length-2 t c = c .before .before .before .advance .ensures .filled .long ∙ c .before .before .before .before .before .before .before .refresh .ensures .kept .long ∙ c .before .before .before .before .before .before .before .before .before .before .loop .inv .kept .long ∙ c .before .before .before .before .before .before .before .before .before .before .before .before .before .constant .ensures .long
+compute-same-length-2 t c = c .before .before .before .advance .ensures .filled .long ∙ c .before .before .before .before .before .before .before .refresh .ensures .kept .long ∙ c .before .before .before .before .before .before .before .before .before .before .loop .inv .kept .long ∙ c .before .before .before .before .before .before .before .before .before .before .before .before .before .begin .ensures .long
 
 compute-returns-2 : (t : ℕ) → compute-lts.Need-returns-2 (compute-claims t) (compute-at t) compute.Post compute-Inv-loop compute-μ-loop
 compute-returns-2 t c =
-    let st = c .before .before .before .before .before .before .before .before .before .before .before .before .before .before .before .before .before .before .before .before .before .before in
+    let st = c .before .before .before .before .before .before .before .before .before .before .before .before .before .before .before .before .before .before .before .before .before .before .before in
     let C = st .pre .1 in
-    let x = c .before .before .before .before .before .before .before .before .before .before .before .before .before .before .before .before .before .before .before .node .result in
-    let b = binder-at t (c .before .before .before .before .before .before .before .before .before .before .before .before .before .before .before .before .before .before) in
-    let F = c .before .before .before .before .before .before .before .before .before .before .before .before .before .constant .ensures in
-    let low = start-low (x .0) (st .args .plan .size) (b .some) (c .before .before .before .before .before .before .before .before .before .before .before .before .before .before .start .ensures) in
-    let R = subst (λ m. Refreshed (read (st .args .file .now)) (st .args .plan) (c .before .before .before .before .before .before .before .before .before .before .loop .work) (c .before .before .before .before .before .before .before .refresh .last .0) (st .args .j) (st .args .act) (bitOr (st .args .act) m)) (c .before .before .before .before .before .before .before .before .before .before .before .before .before .before .before .before .variable .ensures) (c .before .before .before .before .before .before .before .refresh .ensures) in
-    settled-early C F low (eqb (x .0) 11) (x .1) (x .2) (b .is) (c .before .before .before .before .before .before .before .before .before .before .loop .inv) R (c .before .before .before .advance .ensures) (c .if2 .taken)
+    let x = c .before .before .before .before .before .before .before .before .before .before .before .before .before .before .before .before .before .before .before .before .node .result in
+    let b = binder-at t (c .before .before .before .before .before .before .before .before .before .before .before .before .before .before .before .before .before .before .before) in
+    let F = c .before .before .before .before .before .before .before .before .before .before .before .before .before .begin .ensures in
+    let R = subst (λ m. Refreshed (read (st .args .file .now)) (decoded (st .args .plan .now)) (c .before .before .before .before .before .before .before .before .before .before .loop .work) (c .before .before .before .before .before .before .before .refresh .last .0) (st .args .j) (st .args .act) (bitOr (st .args .act) m) (c .before .before .before .before .before .before .before .before .before .before .loop .moved)) (c .before .before .before .before .before .before .before .before .before .before .before .before .before .before .before .variable .ensures) (c .before .before .before .before .before .before .before .refresh .ensures) in
+    settled-early (x .0) (st .args .grown) C F (x .1) (x .2) (b .is) (c .before .before .before .before .before .before .before .before .before .before .before .before .before .before .before .before .before .before .before .if1 .left) (c .before .before .before .before .before .before .before .before .before .before .loop .inv) R (c .before .before .before .advance .ensures) (c .if2 .taken)
 
 compute-add-r : (t : ℕ) → compute-lts.Need-add-r (compute-claims t) (compute-at t) compute.Post compute-Inv-loop compute-μ-loop
 compute-add-r t c =
-    let st = c .before .before .before .before .before .before .before .before .before .before .before .before .before .before .before .before .before .before .before .before .before .before in
+    let st = c .before .before .before .before .before .before .before .before .before .before .before .before .before .before .before .before .before .before .before .before .before .before .before in
     let P = st .pre .1 .ready .planned in
-    omega (arith, P .limit, P .sized .few, size-some (P .sized), mul-le-mul-right {m = st .args .plan .states} {n = 16} (st .args .plan .size) (P .sized .few))
+    omega (arith, P .limit, P .sized .few, size-some (P .sized), mul-le-mul-right {m = decoded (st .args .plan .now) .states} {n = 16} (decoded (st .args .plan .now) .size) (P .sized .few))
 
 compute-loop-less : (t : ℕ) → compute-lts.Need-loop-less (compute-claims t) (compute-at t) compute.Post compute-Inv-loop compute-μ-loop
 compute-loop-less t c = omega arith
 
 compute-loop-again : (t : ℕ) → compute-lts.Need-loop-again (compute-claims t) (compute-at t) compute.Post compute-Inv-loop compute-μ-loop
 compute-loop-again t c =
-    let st = c .before .before .before .before .before .before .before .before .before .before .before .before .before .before .before .before .before .before .before .before .before .before in
+    let st = c .before .before .before .before .before .before .before .before .before .before .before .before .before .before .before .before .before .before .before .before .before .before .before in
     let C = st .pre .1 in
-    let x = c .before .before .before .before .before .before .before .before .before .before .before .before .before .before .before .before .before .before .before .node .result in
-    let b = binder-at t (c .before .before .before .before .before .before .before .before .before .before .before .before .before .before .before .before .before .before) in
-    let F = c .before .before .before .before .before .before .before .before .before .before .before .before .before .constant .ensures in
-    let low = start-low (x .0) (st .args .plan .size) (b .some) (c .before .before .before .before .before .before .before .before .before .before .before .before .before .before .start .ensures) in
-    let R = subst (λ m. Refreshed (read (st .args .file .now)) (st .args .plan) (c .before .before .before .before .before .before .before .before .before .before .loop .work) (c .before .before .before .before .before .before .before .refresh .last .0) (st .args .j) (st .args .act) (bitOr (st .args .act) m)) (c .before .before .before .before .before .before .before .before .before .before .before .before .before .before .before .before .variable .ensures) (c .before .before .before .before .before .before .before .refresh .ensures) in
-    turning-again C F low (eqb (x .0) 11) (x .1) (x .2) (b .is) (c .before .before .before .before .before .before .before .before .before .before .loop .inv) R (c .before .before .before .advance .ensures) (c .if2 .left)
+    let x = c .before .before .before .before .before .before .before .before .before .before .before .before .before .before .before .before .before .before .before .before .node .result in
+    let b = binder-at t (c .before .before .before .before .before .before .before .before .before .before .before .before .before .before .before .before .before .before .before) in
+    let F = c .before .before .before .before .before .before .before .before .before .before .before .before .before .begin .ensures in
+    let R = subst (λ m. Refreshed (read (st .args .file .now)) (decoded (st .args .plan .now)) (c .before .before .before .before .before .before .before .before .before .before .loop .work) (c .before .before .before .before .before .before .before .refresh .last .0) (st .args .j) (st .args .act) (bitOr (st .args .act) m) (c .before .before .before .before .before .before .before .before .before .before .loop .moved)) (c .before .before .before .before .before .before .before .before .before .before .before .before .before .before .before .variable .ensures) (c .before .before .before .before .before .before .before .refresh .ensures) in
+    turning-again (x .0) (st .args .grown) C F (x .1) (x .2) (b .is) (c .before .before .before .before .before .before .before .before .before .before .before .before .before .before .before .before .before .before .before .if1 .left) (c .before .before .before .before .before .before .before .before .before .before .loop .inv) R (c .before .before .before .advance .ensures) (c .if2 .left)
 
 compute-same-length-3 : (t : ℕ) → compute-lts.Need-same-length-3 (compute-claims t) (compute-at t) compute.Post compute-Inv-loop compute-μ-loop
-compute-same-length-3 t c = c .before .loop .inv .kept .long ∙ c .before .before .before .before .constant .ensures .long
+compute-same-length-3 t c = c .before .loop .inv .kept .long ∙ c .before .before .before .before .begin .ensures .long
 
 compute-returns-3 : (t : ℕ) → compute-lts.Need-returns-3 (compute-claims t) (compute-at t) compute.Post compute-Inv-loop compute-μ-loop
 compute-returns-3 t c =
-    let st = c .before .before .before .before .before .before .before .before .before .before .before .before .before in
+    let st = c .before .before .before .before .before .before .before .before .before .before .before .before .before .before in
     let C = st .pre .1 in
-    let x = c .before .before .before .before .before .before .before .before .before .before .node .result in
-    let b = binder-at t (c .before .before .before .before .before .before .before .before .before) in
-    let F = c .before .before .before .before .constant .ensures in
-    let low = start-low (x .0) (st .args .plan .size) (b .some) (c .before .before .before .before .before .start .ensures) in
-    settled-late C F low (eqb (x .0) 11) (x .1) (x .2) (b .is) (c .before .loop .inv) (c .loop-test .left)
+    let x = c .before .before .before .before .before .before .before .before .before .before .before .node .result in
+    let b = binder-at t (c .before .before .before .before .before .before .before .before .before .before) in
+    let F = c .before .before .before .before .begin .ensures in
+    settled-late (x .0) (st .args .grown) C F (x .1) (x .2) (b .is) (c .before .before .before .before .before .before .before .before .before .before .if1 .left) (c .before .loop .inv) (c .loop-test .left)
 
 abbrev refresh-claims : ℕ → refresh-lts.Claims
 refresh-claims t = (refresh-below t, refresh.Post, scope-reads.Asked, scope-reads.Learnt, compute-below t, compute.Post)
 
 refresh-returns : (t : ℕ) → refresh-lts.Need-returns (refresh-claims t) (refresh-at t) refresh.Post
-refresh-returns t c = refresh-none (c .before .before .before .args .old) (c .before .before .before .pre .1) (c .if1 .taken)
+refresh-returns t c = refresh-none (c .before .before .before .args .old) (c .before .before .before .args .grown) (c .before .before .before .pre .1) (c .if1 .taken)
 
 refresh-sub-j : (t : ℕ) → refresh-lts.Need-sub-j (refresh-claims t) (refresh-at t) refresh.Post
 refresh-sub-j t c = search needs
@@ -181,7 +177,7 @@ refresh-refresh-requires t c κs =
     let R = st .pre .1 in
     let j = st .args .k - 1 in
     let e : st .args .k ≡ suc j = not-zero (st .args .k) (c .before .if1 .left) in
-    (omega (arith, st .pre .0, e), ready-down j (st .args .old) R e)
+    (omega (arith, st .pre .0, e), ready-down j (st .args .old) (st .args .grown) R e)
 
 refresh-scope-requires : (t : ℕ) → refresh-lts.Need-scope-requires (refresh-claims t) (refresh-at t) refresh.Post
 refresh-scope-requires t c κs =
@@ -201,7 +197,7 @@ refresh-returns-2 t c =
     let j = st .args .k - 1 in
     let e : st .args .k ≡ suc j = not-zero (st .args .k) (c .before .before .before .before .before .before .if1 .left) in
     let q = c .before .scope .ensures in
-    skip-out j (st .args .old) R e (c .before .before .before .before .refresh .ensures) (λ z. c .if2 .taken (ap (λ u. bitOr u (st .args .act)) q ∙ z))
+    skip-out j (st .args .old) (st .args .grown) R e (c .before .before .before .before .refresh .ensures) (λ z. c .if2 .taken (ap (λ u. bitOr u (st .args .act)) q ∙ z))
 
 refresh-same-length-2 : (t : ℕ) → refresh-lts.Need-same-length-2 (refresh-claims t) (refresh-at t) refresh.Post
 refresh-same-length-2 t c = c .before .before .before .before .before .refresh .ensures .kept .long
@@ -213,7 +209,7 @@ refresh-returns-3 t c =
     let j = st .args .k - 1 in
     let e : st .args .k ≡ suc j = not-zero (st .args .k) (c .before .before .before .before .before .before .before .if1 .left) in
     let q = c .before .before .scope .ensures in
-    skip-old j (st .args .old) R e (c .before .before .before .before .before .refresh .ensures) (ap (λ u. bitOr u (st .args .old)) (sym q) ∙ c .if3 .taken)
+    skip-old j (st .args .old) (st .args .grown) R e (c .before .before .before .before .before .refresh .ensures) (ap (λ u. bitOr u (st .args .old)) (sym q) ∙ c .if3 .taken)
 
 refresh-compute-requires : (t : ℕ) → refresh-lts.Need-compute-requires (refresh-claims t) (refresh-at t) refresh.Post
 refresh-compute-requires t c κs =
@@ -222,7 +218,7 @@ refresh-compute-requires t c κs =
     let j = st .args .k - 1 in
     let e : st .args .k ≡ suc j = not-zero (st .args .k) (c .before .before .before .before .before .before .before .before .if1 .left) in
     let q = c .before .before .before .scope .ensures in
-    (omega (arith, st .pre .0, e), computable j (st .args .old) R e (c .before .before .before .before .before .before .refresh .ensures) (ap (λ u. bitOr u (st .args .act)) (sym q) ∙ c .before .before .if2 .left))
+    (omega (arith, st .pre .0, e), computable j (st .args .old) (st .args .grown) R e (c .before .before .before .before .before .before .refresh .ensures) (ap (λ u. bitOr u (st .args .act)) (sym q) ∙ c .before .before .if2 .left))
 
 refresh-same-length-3 : (t : ℕ) → refresh-lts.Need-same-length-3 (refresh-claims t) (refresh-at t) refresh.Post
 refresh-same-length-3 t c = c .before .before .compute .ensures .kept .long ∙ c .before .before .before .before .before .before .before .before .before .refresh .ensures .kept .long
@@ -233,7 +229,8 @@ refresh-returns-4 t c =
     let R = st .pre .1 in
     let j = st .args .k - 1 in
     let e : st .args .k ≡ suc j = not-zero (st .args .k) (c .before .before .before .before .before .before .before .before .before .before .before .if1 .left) in
-    one-more j (st .args .old) R e (c .before .before .before .before .before .before .before .before .before .refresh .ensures) (c .before .before .compute .ensures)
+    let q = c .before .before .before .before .before .before .scope .ensures in
+    one-more j (st .args .old) (st .args .grown) R e (c .before .before .before .before .before .before .before .before .before .refresh .ensures) (ap (λ u. bitOr u (st .args .act)) (sym q) ∙ c .before .before .before .before .before .if2 .left) (c .before .before .compute .ensures)
 
 pub +compute+refresh-spec : {M : Type 1} → statement M
 +compute+refresh-spec = close μ-compute μ-refresh (λ t. compute-lts.spec (compute-claims t)
@@ -245,11 +242,12 @@ pub +compute+refresh-spec : {M : Type 1} → statement M
     (compute-fill-requires t)
     (compute-same-length t)
     (compute-returns t)
+    (compute-element-copy-out-size t)
+    (compute-element-copy-out-limit t)
     (compute-mul-here t)
     (compute-mul-body t)
     (compute-variable-requires t)
-    (compute-start-requires t)
-    (compute-constant-requires t)
+    (compute-begin-requires t)
     (compute-loop-holds t)
     (compute-refresh-requires t)
     (compute-advance-requires t)

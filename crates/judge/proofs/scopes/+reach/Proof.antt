@@ -4,7 +4,7 @@ use mathlib.Core.List.{List}
 use mathlib.Core.Path.{sym, ap, _∙_, subst}
 use native.Mathlib.Omega.{arith}
 use lib.ListN.{length}
-use Rattle.case_file.proofs.Stages.{peel}
+use Rattle.case_reader.proofs.Readers.{peel}
 use Rattle.case_model.specs.Case.{Triple, read}
 use Rattle.judge.specs.Reaching as spec-reach
 use Rattle.judge.proofs.Reached.{names-low}
@@ -14,7 +14,7 @@ use borrow.Fn.PlainCycle.{Measures, is, falls, and}
 use Rattle.judge.proofs.scopes.reach.Reads as reach
 use Rattle.judge.proofs.scopes.reach.Kinds as reach-kinds
 use Rattle.judge.proofs.scopes.+reach.Lts-reach as reach-lts
-use Rattle.case_file.proofs.node.Reads as node-reads
+use Rattle.case_reader.proofs.node.Reads as node-reads
 use Rattle.judge.proofs.scopes.named.Reads as named-reads
 use Rattle.judge.proofs.scopes.+reach.{statement}
 use Rattle.judge.proofs.scopes.+reach.Tie.{close}

@@ -14,7 +14,7 @@ use borrow.Fn.PlainCycle.{Measures, is, falls, and}
 use Rattle.judge.proofs.sets.homes.Reads as homes
 use Rattle.judge.proofs.sets.homes.Kinds as homes-kinds
 use Rattle.judge.proofs.sets.+homes.Lts-homes as homes-lts
-use Rattle.case_file.proofs.node.Reads as node-reads
+use Rattle.case_reader.proofs.node.Reads as node-reads
 use Rattle.judge.proofs.sets.housed.Reads as housed-reads
 use Rattle.judge.proofs.sets.+homes.{statement}
 use Rattle.judge.proofs.sets.+homes.Tie.{close}

@@ -17,4 +17,8 @@ returns-2 : tie.Need-returns-2
 returns-2 c = simp (le-leb _ _ (c .if1 .left))
 
 pub housed-spec : {M : Type 1} → statement M
-housed-spec = tie.close (tie.spec returns mul-s array-write-s returns-2)
+housed-spec = tie.close (tie.spec
+    returns
+    mul-s
+    array-write-s
+    returns-2)

@@ -21,6 +21,9 @@ loop-holds c = (omega arith, labelled-none _ _)
 labelled-requires : tie.Need-labelled-requires Inv-loop μ-loop
 labelled-requires c κs = search needs
 
+cast-t : tie.Need-cast-t Inv-loop μ-loop
+cast-t c = search needs
+
 mul-t : tie.Need-mul-t Inv-loop μ-loop
 mul-t c = search needs
 
@@ -49,6 +52,7 @@ props-spec =
     μ-loop
     loop-holds
     labelled-requires
+    cast-t
     mul-t
     array-write-t
     add-i

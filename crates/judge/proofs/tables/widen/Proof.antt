@@ -4,7 +4,7 @@ use mathlib.Core.Path.{ap}
 use native.Mathlib.Omega.{arith}
 use lib.Bits.{bitOr}
 use Rattle.judge.specs.Tables.{from}
-use Rattle.judge.proofs.Filling.{Filling, filling-none, before, after, turn, filled}
+use Rattle.judge.proofs.Filling.{Filling, filling-none, before, turn, filled}
 use borrow.Author.Needs.{needs}
 use Rattle.judge.proofs.tables.widen.Statement.{statement}
 use Rattle.judge.proofs.tables.widen.Tie as tie
