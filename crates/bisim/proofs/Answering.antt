@@ -12,14 +12,14 @@ use Rattle.flc.specs.Formula.{Table}
 use Rattle.flc.specs.Bisimulation.{alike}
 use Rattle.case_model.specs.Bytes.{listOf}
 use Rattle.case_model.specs.Case.{read, table}
-use Rattle.case_model.specs.Rows.{Found, sound, refused, refusals}
-use Rattle.case_model.specs.Replies.{answers, refuses, Counts, counts, replied, accepting}
+use Rattle.case_model.specs.Rows.{sound, refused, refusals}
+use Rattle.case_model.specs.Replies.{answers, refuses, Counts, counts, accepting}
 use Rattle.case_model.specs.Merging.{counted, written, lowestAlike, classing}
 use Rattle.case_model.proofs.Lists.{length-listOf, listOf-ext}
 use Rattle.case_model.proofs.Valid.{Valid, accepted-valid}
-use Rattle.case_file.specs.Told.{number, countsOf}
+use Rattle.case_file.specs.Told.{number}
 use Rattle.case_file.specs.Told as vetting
-use Rattle.case_file.proofs.Answers.{replied-sound}
+use Rattle.case_file.proofs.Answers.{replied-refused, accepts}
 use Rattle.case_file.specs.declared.reason.Refusal.{Refusal}
 use Rattle.case_file.specs.declared.vetting.Case.{Case}
 use Rattle.case_file.specs.declared.vetting.Vetted.{Vetted}
@@ -37,14 +37,9 @@ pub record Accepted (f : List ℕ) (n : ℕ) : Type 0 where
   pub states : n ≡ length (read f .labels)
 
 pub accepted : (f : List ℕ) {v : Vetted} (x : Case) → v ≡ vetted.Case x → vetting.told v ≡ accepting f → Accepted f (x .states)
-unfolding accepting
 accepted f x q e =
-    let (s, same) = replied-sound (refusals f) (counts (read f)) (countsOf x) (sym e ∙ ap vetting.told q) in
+    let (s, same) = accepts f x q e in
     record { rows = s; valid = accepted-valid f s; states = sym (ap (λ (y : Counts). y .states) same) }
-
-replied-refused : {A : Type 0} (r : Found) (a : A) (k p : ℕ) → replied r a ≡ refuses k p → r ≡ refused k p
-replied-refused sound a k p e = cc
-replied-refused (refused j q) a k p e = cc
 
 pub turned-back : (f : List ℕ) {v : Vetted} (x : Refusal) → v ≡ vetted.Refused x → vetting.told v ≡ accepting f → refusals f ≡ refused (number (x .reason)) (x .place)
 unfolding accepting

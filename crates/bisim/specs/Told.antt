@@ -1,4 +1,4 @@
--- The paper's number and values for each case of the answer of classes; and when two states of a file are alike.
+-- The paper's number and values for each case of the answer of an entry that writes; and when two states of a file are alike.
 use Prim.Native.Nat.{ℕ}
 use mathlib.Core.Bool.{Bool, true, false, _&&_}
 use mathlib.Core.List.{List}
@@ -9,8 +9,8 @@ use Rattle.case_model.specs.Case.{read, table}
 use Rattle.case_model.specs.Rows.{Found, sound, refused, refusals}
 use Rattle.case_model.specs.Replies.{Reply, answers, refuses}
 use Rattle.case_file.specs.Told.{number}
-use Rattle.bisim.specs.declared.entries.Written.{Written}
-use Rattle.bisim.specs.declared.entries.Written.the-variants as written
+use Rattle.bisim.specs.declared.written.Written.{Written}
+use Rattle.bisim.specs.declared.written.Written.the-variants as written
 
 abbrev pub told : Written → Reply ℕ
 told (written.Bytes n) = answers n

@@ -12,17 +12,12 @@ ghost use Rattle.bisim.specs.Told.{told, areAlike};
 use crate::graph::draw;
 use crate::masks::member;
 use crate::refinement::alike_rows;
+use crate::written::Written;
+use crate::written::refused;
+use crate::written::turned_back;
 use case_file::Case;
 use case_file::Reason;
-use case_file::Refusal;
 use case_file::Vetted;
-use case_file::refusal;
-
-// How many bytes were written, or the first refusal.
-pub enum Written {
-    Bytes(usize),
-    Refused(Refusal),
-}
 
 // The lowest state that row s has, s itself if none is lower.
 fn lowest(rows: [u16; 16], s: usize) -> usize
@@ -56,14 +51,11 @@ pub fn classes(file: &[u8], out: &mut [u8]) -> Written
 {
     let vetted = Case::new(file);
     let Vetted::Case(case) = vetted else {
-        return Written::Refused(refusal(vetted));
+        return turned_back(vetted);
     };
     let n = case.states();
     if out.len() < n {
-        return Written::Refused(Refusal {
-            reason: Reason::Room,
-            place: 0,
-        });
+        return refused(Reason::Room);
     }
     write(alike_rows(draw(file)), n, out);
     Written::Bytes(n)

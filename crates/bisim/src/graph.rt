@@ -8,10 +8,10 @@ ghost use Rattle.case_model.specs.Rows.{mostStates};
 ghost use Rattle.case_model.proofs.Valid.{Valid};
 ghost use Rattle.bisim.specs.Graphs.{Successors, Sized, Drawn, After};
 use case_file::Case;
-use case_file::label;
-use case_file::state_count;
-use case_file::step;
-use case_file::step_count;
+use case_reader::label;
+use case_reader::state_count;
+use case_reader::step;
+use case_reader::step_count;
 
 pub(crate) struct Graph {
     pub(crate) states: usize,

@@ -3,7 +3,10 @@ mod entries;
 mod graph;
 mod masks;
 mod refinement;
+mod written;
 
-pub use entries::Written;
 pub use entries::are_alike;
 pub use entries::classes;
+pub use written::Written;
+pub use written::refused;
+pub use written::turned_back;

@@ -7,7 +7,7 @@ use lib.Dec.{ltb}
 use Rattle.case_model.specs.Bytes.{byteAt, sections}
 use Rattle.case_model.specs.Case.{read}
 use Rattle.case_model.specs.Rows.{Found, sound, refused, _orElse_, mostStates, mostNodes, row8, refusals}
-use Rattle.case_model.specs.Replies.{Counts, counts, replied, answers, refuses, vetting}
+use Rattle.case_model.specs.Replies.{Counts, counts, replied, answers, refuses, accepting, vetting}
 use Rattle.case_model.proofs.Sections.{left-sound}
 use Rattle.case_model.proofs.Valid.{accepted-valid}
 use Rattle.case_model.proofs.Places.{Placed, somewhere, later, refusals-placed}
@@ -25,9 +25,14 @@ replied-sound sound a b e = (refl, cc)
 replied-sound (refused k p) a b e = (cc, cc)
 
 -- a refusal says which was found
-replied-refused : {A : Type 0} (r : Found) (a : A) (k p : ℕ) → replied r a ≡ refuses k p → r ≡ refused k p
+pub replied-refused : {A : Type 0} (r : Found) (a : A) (k p : ℕ) → replied r a ≡ refuses k p → r ≡ refused k p
 replied-refused sound a k p e = cc
 replied-refused (refused j q) a k p e = cc
+
+-- a case says that no refusal was found, and has the counts of the file
+pub accepts : (f : List ℕ) {v : Vetted} (x : Case) → v ≡ vetted.Case x → told v ≡ accepting f → (refusals f ≡ sound) × (counts (read f) ≡ countsOf x)
+unfolding accepting
+accepts f x q e = replied-sound (refusals f) (counts (read f)) (countsOf x) (sym e ∙ ap told q)
 
 pub record Counted (x : Case) : Type 0 where
   pub states : x .states ≤ mostStates

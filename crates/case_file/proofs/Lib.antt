@@ -1,4 +1,3 @@
-pub mod Readers
 pub mod Chain
 pub mod Stages
 pub mod Answers

@@ -1,10 +1,8 @@
 -- What the answer of vetting tells of the section that is opened.
 use Prim.Native.Nat.{ℕ, _+_, _≤_, _<_}
-use mathlib.Core.Bool.{cond}
 use mathlib.Core.List.{List, []}
 use mathlib.Core.Path.{_≡_, sym, ap, _∙_}
-use borrow.Author.Tests.{ltb-true, lt-ltb}
-use lib.Dec.{ltb}
+use borrow.Author.Tests.{ltb-true}
 use lib.ListN.{length, take, drop}
 use Rattle.case_model.specs.Bytes.{byteAt, offset, size, sections, section}
 use Rattle.case_model.specs.Case.{read}
@@ -40,10 +38,6 @@ opens f k {v} x q e =
       long = rw (← e, q) (unfold section in length-listOf (size f k) (λ i. byteAt f (offset f k + i)));
       at = rw (← e, q);
     }
-
--- what a reader of the pair of such a section answers
-pub there : {f : List ℕ} {k : ℕ} → Opens f k → (x : ℕ) {r : ℕ} → r ≡ cond (ltb k sections) x 0 → r ≡ x
-there o x e = e ∙ rw (lt-ltb _ _ (o .number))
 
 pub record Empty (f : List ℕ) (k : ℕ) : Type 0 where
   pub is : [] ≡ opening f k

@@ -1,9 +1,8 @@
 -- A chain of tests is the rows that they find, one after the other; and what a chain that found nothing tells.
-use Prim.Native.Nat.{ℕ, suc, _-_}
+use Prim.Native.Nat.{ℕ}
 use mathlib.Core.Bool.{true}
 use mathlib.Core.List.{List}
 use mathlib.Core.Path.{_≡_, sym, ap, ap₂, _∙_}
-use native.Mathlib.Omega.{arith}
 use borrow.Author.Tests.{leb-true, ltb-true}
 use Rattle.case_model.specs.Case.{read}
 use Rattle.case_model.specs.Rows.{Found, _orElse_, ruleHolds, row1, row2, row3, row4, row5, row6}
@@ -36,7 +35,3 @@ may-close f p e =
     (left-sound _ (row5 (read f)) (left-sound _ (row6 (read f)) (sym (p .finds) ∙ e))) in
     let h : ruleHolds f (read f) ≡ true = unless-sound _ 4 0 r in
     (leb-true _ _ (search (and-l, and-r)), ltb-true _ _ (search (and-l, and-r)))
-
--- a number that is not 0, where a recursion takes its step
-pub peel : {A : Type 0} (g : ℕ → A) (i : ℕ) → (i ≡ 0 → ⊥) → g i ≡ g (suc (i - 1))
-peel g i h = let e : i ≡ suc (i - 1) = omega arith in ap g e

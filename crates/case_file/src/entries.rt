@@ -2,10 +2,10 @@
 ghost use mathlib.Core.Path.{_≡_};
 ghost use Rattle.case_model.specs.Replies.{vetting, Opened};
 ghost use Rattle.case_file.specs.Told.{told};
-use crate::parts::section_offset;
-use crate::parts::section_size;
 use crate::vetting::Vetted;
 use crate::vetting::Vetting;
+use case_reader::section_offset;
+use case_reader::section_size;
 
 // The counts of states and nodes, or the first refusal.
 pub fn vet(file: &[u8], section: usize) -> Vetted

@@ -1,21 +1,21 @@
 // The tests of rows 1 to 6, each over any bytes.
 ghost use mathlib.Core.Path.{_≡_};
-ghost use Prim.Native.Nat.{_-_, _<_};
-ghost use lib.ListN.{length};
+ghost use Prim.Native.Nat.{_-_};
 ghost use Rattle.flc.specs.Sets.{forSome, first};
 ghost use Rattle.case_model.specs.Bytes.{sections, chained, pairsHold};
 ghost use Rattle.case_model.specs.Case.{read, at};
 ghost use Rattle.case_model.specs.Rows.{rises, stepWrong, nodeHolds, nodeWrong, binds, binderWrong, labelsHold, ruleHolds};
-ghost use Rattle.case_file.specs.Read.{triple};
+ghost use Rattle.case_reader.specs.Read.{triple};
 ghost use Rattle.case_file.specs.Told.{wrong};
-use crate::bytes::word;
-use crate::parts::Triple;
-use crate::parts::node;
-use crate::parts::node_count;
-use crate::parts::root;
-use crate::parts::state_count;
-use crate::parts::step;
 use crate::vetting::Case;
+use case_reader::Triple;
+use case_reader::node;
+use case_reader::node_count;
+use case_reader::root;
+use case_reader::section_offset;
+use case_reader::section_size;
+use case_reader::state_count;
+use case_reader::step;
 
 // Does each section begin where the one before ends, and the last end with the file?
 fn chained(file: &[u8]) -> bool
@@ -24,10 +24,10 @@ fn chained(file: &[u8]) -> bool
     let mut at = 4 * Case::SECTIONS;
     let mut k = 0;
     while k < Case::SECTIONS {
-        if word(file, 4 * k) != at {
+        if section_offset(file, k) != at {
             return false;
         }
-        at += word(file, 4 * k + 2);
+        at += section_size(file, k);
         k += 1;
     }
     at == file.len()
@@ -74,7 +74,7 @@ pub(crate) fn rule_holds(file: &[u8]) -> bool
     ensures { λ r. ⌜ r ≡ ruleHolds (now (file .entry)) (read (now (file .entry))) ⌝ }
 {
     let m = node_count(file);
-    (word(file, 10) % 3 == 1) & (1 <= m) & (m <= Case::NODES) & (root(file) < m)
+    (section_size(file, 2) % 3 == 1) & (1 <= m) & (m <= Case::NODES) & (root(file) < m)
 }
 
 // The lines of the table of kinds, for node j.

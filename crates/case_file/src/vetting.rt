@@ -1,15 +1,12 @@
 // Vetting: refusals are tested in rising number, each test a step of a state that goes by value.
 ghost use mathlib.Core.Path.{_≡_};
+ghost use Prim.Native.Nat.{_≤_, _<_};
+ghost use lib.ListN.{length};
 ghost use Rattle.case_model.specs.Bytes.{sections};
 ghost use Rattle.case_model.specs.Case.{read};
-ghost use Rattle.case_model.specs.Rows.{_orElse_, unless, row1, row2, row3, row4, row5, row6, row7, row8, refusals, sound};
+ghost use Rattle.case_model.specs.Rows.{_orElse_, unless, rootClosed, mostNodes, row1, row2, row3, row4, row5, row6, row7, row8, refusals, sound};
 ghost use Rattle.case_model.specs.Replies.{accepting, replied};
 ghost use Rattle.case_file.specs.Told.{number, told, refusalOf, found, countsOf, Stage, Went, MayClose};
-use crate::bytes::word;
-use crate::frees::root_closed;
-use crate::parts::node_count;
-use crate::parts::state_count;
-use crate::parts::step_count;
 use crate::reason::Reason;
 use crate::reason::Refusal;
 use crate::tests::Search;
@@ -17,6 +14,12 @@ use crate::tests::first_wrong;
 use crate::tests::labels_hold;
 use crate::tests::pairs_hold;
 use crate::tests::rule_holds;
+use case_reader::masks;
+use case_reader::node_count;
+use case_reader::root;
+use case_reader::section_size;
+use case_reader::state_count;
+use case_reader::step_count;
 
 // An accepted case: how many states and nodes it has.
 pub struct Case {
@@ -110,6 +113,14 @@ fn earlier(before: Finding, now: Finding) -> Finding
     now
 }
 
+// The root's entry in the table of free variables is empty.
+fn root_closed(file: &[u8]) -> bool
+    requires { ⌜ (length (read (now file) .nodes) ≤ mostNodes) × (read (now file) .root < length (read (now file) .nodes)) ⌝ }
+    ensures { λ r. ⌜ r ≡ rootClosed (read (now (file .entry))) ⌝ }
+{
+    masks(file)[root(file)] == 0
+}
+
 impl Vetting {
     fn begin(file: &[u8]) -> Vetting
         ensures { λ r. ⌜ Stage (now (file .entry)) r sound ⌝ }
@@ -181,7 +192,7 @@ impl Vetting {
         };
         let count = step_count(file);
         let bad = first_wrong(file, Search::Step, count);
-        self.unless(word(file, 6) % 3 == 0, Reason::Steps, 0)
+        self.unless(section_size(file, 1) % 3 == 0, Reason::Steps, 0)
             .unless(bad == count, Reason::Steps, bad)
     }
 

@@ -1,6 +1,6 @@
 -- The parts of a reply fit in its word: a refusal's place, and a verdict's rounds.
 -- Places are small in a file of bytes; rounds are found by a search of n * 2 ^ n numbers, n at most 16.
-use Prim.Native.Nat.{ℕ, suc, _+_, _*_, _^_, _≤_, _<_, min, max}
+use Prim.Native.Nat.{ℕ, suc, _*_, _^_, _≤_, _<_, min, max}
 use mathlib.Core.Bool.{Bool, _&&_, not}
 use mathlib.Core.List.{List}
 use mathlib.Core.Path.{_≡_, refl}

@@ -44,8 +44,8 @@ pub extern "C" fn hoidrul_open(file: &[u8], section: usize) -> u64
     let Vetted::Case(_) = vetted else {
         return 0;
     };
-    let offset = case_file::section_offset(file, section);
-    let size = case_file::section_size(file, section);
+    let offset = case_reader::section_offset(file, section);
+    let size = case_reader::section_size(file, section);
     (offset * 4294967296 + size) as u64
 }
 
@@ -90,7 +90,7 @@ pub extern "C" fn hoidrul_merge(file: &[u8], s: usize, t: usize, out: &mut [u8])
     ensures { λ r. ⌜ r ≡ packed itself (counted (merging (now (file .entry)) s t (length (now (out .entry))))) ⌝ }
     ensures { λ _. ⌜ now (out .exit) ≡ written (merging (now (file .entry)) s t (length (now (out .entry)))) (now (out .entry)) ⌝ }
 {
-    count_word(edits::merge(file, s, t, out))
+    count_word(merging::merge(file, s, t, out))
 }
 
 #[no_mangle]
@@ -98,5 +98,5 @@ pub extern "C" fn hoidrul_rewrite(file: &[u8], law: usize, node: usize, out: &mu
     ensures { λ r. ⌜ r ≡ packed itself (counted (rewriting (now (file .entry)) law node (length (now (out .entry))))) ⌝ }
     ensures { λ _. ⌜ now (out .exit) ≡ written (rewriting (now (file .entry)) law node (length (now (out .entry)))) (now (out .entry)) ⌝ }
 {
-    count_word(edits::rewrite(file, law, node, out))
+    count_word(rewriting::rewrite(file, law, node, out))
 }

@@ -1,6 +1,6 @@
 -- `hoidrul::count_word` meets its contract, by cases on the answer.
 use borrow.Author.Needs.{needs}
-use mathlib.Core.Path.{ap, subst}
+use mathlib.Core.Path.{subst}
 use Rattle.bisim.specs.Told.{told}
 use Rattle.hoidrul.specs.Packing.{Fits, Any}
 use Rattle.hoidrul.proofs.count_word.Statement.{statement}

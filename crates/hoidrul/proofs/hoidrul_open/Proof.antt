@@ -1,6 +1,7 @@
 -- `hoidrul::hoidrul_open` meets its contract: the section's pair where vetting answers, and 0 where it refuses.
 use borrow.Author.Needs.{needs}
-use Rattle.case_file.proofs.Opening.{opens, there, refuses}
+use Rattle.case_reader.proofs.Readers.{there}
+use Rattle.case_file.proofs.Opening.{opens, refuses}
 use Rattle.hoidrul.proofs.hoidrul_open.Statement.{statement}
 use Rattle.hoidrul.proofs.hoidrul_open.Tie as tie
 
@@ -37,7 +38,7 @@ returns-2 c =
     let v = c .before .before in
     let a = v .before .before .before .before .args in
     let o = opens (a .file .now) (a .section) (v .enum-told .given .0 .0) (v .enum-told .given .1) (v .before .before .vet .ensures) in
-    rw (o .at, o .long, there o _ (c .before .section-offset .ensures .is), there o _ (c .section-size .ensures .is))
+    rw (o .at, o .long, there (o .number) _ (c .before .section-offset .ensures .is), there (o .number) _ (c .section-size .ensures .is))
 
 pub hoidrul-open-spec : {M : Type 1} → statement M
 hoidrul-open-spec =

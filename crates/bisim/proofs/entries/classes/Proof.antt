@@ -25,8 +25,8 @@ enum-known-vetted c = search needs
 enum-told : tie.Need-enum-told
 enum-told c = search needs
 
-refusal-requires : tie.Need-refusal-requires
-refusal-requires c κs = search needs
+turned-back-requires : tie.Need-turned-back-requires
+turned-back-requires c κs = search needs
 
 returns : tie.Need-returns
 returns c =
@@ -34,16 +34,19 @@ returns c =
     let a = new .before .before .before .args in
     let v = c .before .enum-told .given in
     let e = classing-refused (a .file .now) (length (a .out .now)) _ _ (turned-back (a .file .now) (v .0 .0) (v .1) (new .new .ensures)) in
-    (rw (e, c .refusal .ensures, v .1), rw e)
+    (rw (e, c .turned-back .ensures, v .1), rw e)
 
 states-requires : tie.Need-states-requires
 states-requires c κs = search needs
 
+refused-requires : tie.Need-refused-requires
+refused-requires c κs = search needs
+
 returns-2 : tie.Need-returns-2
 returns-2 c =
-    let a = c .before .before .before .before .before .before .before .before .args in
-    let e = classing-short (a .file .now) (length (a .out .now)) _ (at-states (c .before)) (c .if1 .taken) in
-    (rw e, rw e)
+    let a = c .before .before .before .before .before .before .before .before .before .args in
+    let e = classing-short (a .file .now) (length (a .out .now)) _ (at-states (c .before .before)) (c .before .if1 .taken) in
+    (rw (e, c .refused .ensures), rw e)
 
 draw-requires : tie.Need-draw-requires
 draw-requires c κs = at-states (c .before) .valid
@@ -81,9 +84,10 @@ classes-spec =
     new-requires
     enum-known-vetted
     enum-told
-    refusal-requires
+    turned-back-requires
     returns
     states-requires
+    refused-requires
     returns-2
     draw-requires
     alike-rows-requires

@@ -9,7 +9,7 @@ use lib.ListN.{length, take}
 use lib.Pow.{pow-lt}
 use Rattle.case_model.specs.Case.{Triple, read, listed}
 use Rattle.case_model.proofs.Steps.{InRange}
-use Rattle.case_file.specs.Read.{triple}
+use Rattle.case_reader.specs.Read.{triple}
 use Rattle.bisim.proofs.Drawing.{Stored, in-range, store-none, store-more, store-all}
 use Rattle.bisim.proofs.graph.successors.Statement.{statement}
 use Rattle.bisim.proofs.graph.successors.Tie as tie

@@ -3,7 +3,8 @@ use borrow.Author.Needs.{needs}
 use native.Mathlib.Omega.{arith}
 use native.Mathlib.Nat.{add-sub-cancel-left, add-zero, add-comm}
 use mathlib.Core.Path.{refl, sym}
-use Rattle.case_file.proofs.Opening.{Opens, opens, there, refuses}
+use Rattle.case_reader.proofs.Readers.{there}
+use Rattle.case_file.proofs.Opening.{Opens, opens, refuses}
 use Rattle.case_file.proofs.entries.open.Statement.{statement}
 use Rattle.case_file.proofs.entries.open.Tie as tie
 
@@ -50,14 +51,14 @@ part-result-start c = search needs
 part-result-end : tie.Need-part-result-end
 part-result-end c =
     let o = at-told (c .before .before) in
-    omega (arith, o, there o _ (c .before .section-offset .ensures .is), there o _ (c .section-size .ensures .is))
+    omega (arith, o, there (o .number) _ (c .before .section-offset .ensures .is), there (o .number) _ (c .section-size .ensures .is))
 
 returns-2 : tie.Need-returns-2
 returns-2 c =
     let o = at-told (c .before .before .before) in
-    let start = there o _ (c .before .before .section-offset .ensures .is) in
+    let start = there (o .number) _ (c .before .before .section-offset .ensures .is) in
     record {
-      bytes = rw (add-sub-cancel-left, start, there o _ (c .before .section-size .ensures .is)) (sym (o .is));
+      bytes = rw (add-sub-cancel-left, start, there (o .number) _ (c .before .section-size .ensures .is)) (sym (o .is));
       block = refl;
       place = rw (o .at, start, add-comm);
     }

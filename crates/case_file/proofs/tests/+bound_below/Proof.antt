@@ -8,13 +8,13 @@ use Rattle.flc.specs.Sets.{forSome, either}
 use Rattle.case_model.specs.Case as spec
 use Rattle.case_model.specs.Case.{read}
 use Rattle.case_model.specs.Rows.{binds}
-use Rattle.case_file.proofs.Stages.{peel}
+use Rattle.case_reader.proofs.Readers.{peel}
 use borrow.Fn.Kinds.{In}
 use borrow.Fn.PlainCycle.{Measures, is, falls, and}
 use Rattle.case_file.proofs.tests.bound_below.Reads as bound-below
 use Rattle.case_file.proofs.tests.bound_below.Kinds as bound-below-kinds
 use Rattle.case_file.proofs.tests.+bound_below.Lts-bound_below as bound-below-lts
-use Rattle.case_file.proofs.parts.node.Reads as node-reads
+use Rattle.case_reader.proofs.node.Reads as node-reads
 use Rattle.case_file.proofs.tests.+bound_below.{statement}
 use Rattle.case_file.proofs.tests.+bound_below.Tie.{close}
 

@@ -1,10 +1,10 @@
 -- `case_file::tests::chained` meets its contract. The loop's invariant: the rule from section k on, at the end of the section before, is the answer.
 use borrow.Author.Needs.{needs}
-use mathlib.Core.Path.{refl, ap}
 use Prim.Native.Nat.{_≤_, _-_, _+_, _*_}
-use mathlib.Core.Path.{_≡_, sym, _∙_}
+use mathlib.Core.Path.{_≡_, refl, sym, ap, _∙_}
 use native.Mathlib.Omega.{arith}
 use Rattle.case_model.specs.Bytes.{sections, chained}
+use Rattle.case_reader.proofs.Readers.{there}
 use Rattle.case_file.proofs.Chain.{chained-step, chained-broken, chained-end}
 use Rattle.case_file.proofs.tests.chained.Statement.{statement}
 use Rattle.case_file.proofs.tests.chained.Tie as tie
@@ -21,28 +21,20 @@ mul-at c = search needs
 loop-holds : tie.Need-loop-holds Inv-loop μ-loop
 loop-holds c = (search needs, search needs, refl)
 
-mul-word : tie.Need-mul-word Inv-loop μ-loop
-mul-word c = search needs
-
-word-requires : tie.Need-word-requires Inv-loop μ-loop
-word-requires c κs = search needs
+section-offset-requires : tie.Need-section-offset-requires Inv-loop μ-loop
+section-offset-requires c κs = search needs
 
 returns : tie.Need-returns Inv-loop μ-loop
 returns c =
-    let at = c .before .before .before in
-    sym (at .loop .inv .2 ∙ chained-broken _ _ _ sections (c .before .before .loop-test .taken) (λ e. c .if1 .taken (c .before .word .ensures .is ∙ e)))
+    let at = c .before .before in
+    let k = at .loop-test .taken in
+    sym (at .before .loop .inv .2 ∙ chained-broken _ _ _ sections k (λ e. c .if1 .taken (there k _ (c .before .section-offset .ensures .is) ∙ e)))
 
-mul-word-2 : tie.Need-mul-word-2 Inv-loop μ-loop
-mul-word-2 c = search needs
-
-add-word : tie.Need-add-word Inv-loop μ-loop
-add-word c = search needs
-
-word-requires-2 : tie.Need-word-requires-2 Inv-loop μ-loop
-word-requires-2 c κs = search needs
+section-size-requires : tie.Need-section-size-requires Inv-loop μ-loop
+section-size-requires c κs = search needs
 
 add-at : tie.Need-add-at Inv-loop μ-loop
-add-at c = omega arith
+add-at c = omega (arith, c .section-size .ensures .small)
 
 add-k : tie.Need-add-k Inv-loop μ-loop
 add-k c = search needs
@@ -53,11 +45,13 @@ loop-less c = omega arith
 loop-again : tie.Need-loop-again Inv-loop μ-loop
 loop-again c =
     let at = c .before .before .before .before in
+    let k = c .before .before .before .loop-test .taken in
     let f = at .before .before .args .file .now in (
       omega arith,
-      omega (arith, c .word2 .ensures .small),
-      at .loop .inv .2 ∙ chained-step _ _ _ sections (c .before .before .before .loop-test .taken) (sym (c .before .before .word .ensures .is) ∙ c .before .if1 .left)
-          ∙ ap (λ x. chained f (at .loop .at + x) (at .loop .k + 1) (sections - (at .loop .k + 1))) (sym (c .word2 .ensures .is)),
+      omega (arith, c .section-size .ensures .small),
+      at .loop .inv .2
+          ∙ chained-step _ _ _ sections k (sym (there k _ (c .before .before .section-offset .ensures .is)) ∙ c .before .if1 .left)
+          ∙ ap (λ x. chained f (at .loop .at + x) (at .loop .k + 1) (sections - (at .loop .k + 1))) (sym (there k _ (c .section-size .ensures .is))),
     )
 
 returns-2 : tie.Need-returns-2 Inv-loop μ-loop
@@ -71,12 +65,9 @@ chained-spec =
     μ-loop
     mul-at
     loop-holds
-    mul-word
-    word-requires
+    section-offset-requires
     returns
-    mul-word-2
-    add-word
-    word-requires-2
+    section-size-requires
     add-at
     add-k
     loop-less

@@ -6,8 +6,8 @@ use Rattle.case_file.proofs.tests.rule_holds.Tie as tie
 node-count-requires : tie.Need-node-count-requires
 node-count-requires c κs = search needs
 
-word-requires : tie.Need-word-requires
-word-requires c κs = search needs
+section-size-requires : tie.Need-section-size-requires
+section-size-requires c κs = search needs
 
 root-requires : tie.Need-root-requires
 root-requires c κs = search needs
@@ -16,4 +16,4 @@ returns : tie.Need-returns
 returns c = cc
 
 pub rule-holds-spec : {M : Type 1} → statement M
-rule-holds-spec = tie.close (tie.spec node-count-requires word-requires root-requires returns)
+rule-holds-spec = tie.close (tie.spec node-count-requires section-size-requires root-requires returns)

@@ -20,8 +20,8 @@ step-count-requires c κs = search needs
 first-wrong-requires : tie.Need-first-wrong-requires
 first-wrong-requires c κs = search needs
 
-word-requires : tie.Need-word-requires
-word-requires c κs = search needs
+section-size-requires : tie.Need-section-size-requires
+section-size-requires c κs = search needs
 
 unless-requires : tie.Need-unless-requires
 unless-requires c κs = search needs
@@ -33,7 +33,7 @@ returns-2 : tie.Need-returns-2
 unfolding lowest
 returns-2 c =
     let count = c .before .before .before .before .step-count .ensures .is in
-    went-twice (rw (c .before .before .word .ensures .is) at (c .before .unless .ensures))
+    went-twice (rw (c .before .before .section-size .ensures .is) at (c .before .unless .ensures))
     (rw (c .before .before .before .first-wrong .ensures, count) at (c .unless2 .ensures))
 
 pub steps-spec : {M : Type 1} → statement M
@@ -45,7 +45,7 @@ steps-spec =
     returns
     step-count-requires
     first-wrong-requires
-    word-requires
+    section-size-requires
     unless-requires
     unless-requires-2
     returns-2)

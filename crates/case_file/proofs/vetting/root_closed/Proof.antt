@@ -1,0 +1,28 @@
+-- `case_file::vetting::root_closed` meets its contract: the root's entry of the table is empty exactly if the root has no free variable.
+use borrow.Author.Needs.{needs}
+use borrow.Author.Tests.{le-leb}
+use Rattle.case_model.specs.Case.{read}
+use Rattle.case_model.proofs.Frees.{masks-closed}
+use Rattle.case_file.proofs.vetting.root_closed.Statement.{statement}
+use Rattle.case_file.proofs.vetting.root_closed.Tie as tie
+
+masks-requires : tie.Need-masks-requires
+masks-requires c κs = search needs
+
+root-requires : tie.Need-root-requires
+root-requires c κs = search needs
+
+mul-result : tie.Need-mul-result
+mul-result c = search needs
+
+array-read-result : tie.Need-array-read-result
+array-read-result c = search needs
+
+returns : tie.Need-returns
+returns c =
+    let s = c .before .before .before in
+    rw (c .before .masks .ensures, c .root .ensures .is, le-leb _ _ (s .pre .0)) (masks-closed (read (s .args .file .now)) (s .pre .1) (s .pre .0))
+
+pub root-closed-spec : {M : Type 1} → statement M
+root-closed-spec =
+    tie.close (tie.spec masks-requires root-requires mul-result array-read-result returns)

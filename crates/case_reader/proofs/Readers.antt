@@ -1,0 +1,25 @@
+-- What a reader finds at a position that it has compared with a count: an element, or the default past the end. And the step of a recursion over nodes.
+use Prim.Native.Nat.{ℕ, suc, _-_, _≤_, _<_}
+use mathlib.Core.Bool.{cond}
+use mathlib.Core.List.{List}
+use mathlib.Core.Path.{_≡_, sym, ap, subst, _∙_}
+use native.Mathlib.Omega.{arith}
+use borrow.Author.Tests.{lt-ltb}
+use lib.Dec.{ltb}
+use lib.ListN.{length, getD, List·getD-eq-default}
+use Rattle.case_model.specs.Bytes.{sections, listOf}
+use Rattle.case_model.proofs.Lists.{getD-listOf, length-listOf}
+
+pub past {ℓ} : {A : Type ℓ} (l : List A) (d : A) (i : ℕ) {n : ℕ} → n ≡ length l → n ≤ i → d ≡ getD l i d
+past l d i e h = sym (List·getD-eq-default l d {n = i} (subst (λ n. n ≤ i) e h))
+
+pub found {ℓ} : {A : Type ℓ} (k : ℕ) (h : ℕ → A) (d : A) (i : ℕ) {n : ℕ} → n ≡ length (listOf k h) → i < n → h i ≡ getD (listOf k h) i d
+found k h d i e l = sym (getD-listOf k h d i (subst (λ n. i < n) (e ∙ length-listOf k h) l))
+
+-- what a reader of a pair answers, of a section that there is
+pub there : {k : ℕ} → k < sections → (x : ℕ) {r : ℕ} → r ≡ cond (ltb k sections) x 0 → r ≡ x
+there h x e = e ∙ rw (lt-ltb _ _ h)
+
+-- a number that is not 0, where a recursion takes its step
+pub peel : {A : Type 0} (g : ℕ → A) (i : ℕ) → (i ≡ 0 → ⊥) → g i ≡ g (suc (i - 1))
+peel g i h = let e : i ≡ suc (i - 1) = omega arith in ap g e

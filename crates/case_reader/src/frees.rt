@@ -1,0 +1,77 @@
+// Free variables as masks, bit v for variable v: a table of the nodes, filled in rising number, so that a shared node is visited once.
+ghost use mathlib.Core.Path.{_≡_};
+ghost use Prim.Native.Nat.{_≤_};
+ghost use lib.ListN.{getD};
+ghost use Rattle.case_model.specs.Case.{read};
+ghost use Rattle.case_model.specs.Rows.{mostNodes};
+ghost use Rattle.case_model.proofs.Frees.{single, without, maskOf, masks};
+ghost use Rattle.case_reader.specs.Read.{triple, tabled};
+use crate::parts::Triple;
+use crate::parts::node;
+use crate::parts::node_count;
+
+// The set of one variable.
+fn single(v: usize) -> u16
+    ensures { λ r. ⌜ r ≡ single v ⌝ }
+{
+    if v < 16 { 1u16 << v } else { 0 }
+}
+
+// A set without one variable.
+fn without(x: u16, v: usize) -> u16
+    ensures { λ r. ⌜ r ≡ without x v ⌝ }
+{
+    if v < 16 { x & (65535 - (1u16 << v)) } else { x }
+}
+
+// Entry i of a table, 0 past its end.
+fn entry(t: [u16; 64], i: usize) -> u16
+    ensures { λ r. ⌜ r ≡ getD t i 0 ⌝ }
+{
+    if i < 64 { t[i] } else { 0 }
+}
+
+// The free variables of a node, from those of the nodes that it names.
+fn mask_of(t: [u16; 64], x: Triple) -> u16
+    ensures { λ r. ⌜ r ≡ maskOf t (triple x) ⌝ }
+{
+    if x.0 == 4 {
+        return single(x.1);
+    }
+    if x.0 <= 7 {
+        return 0;
+    }
+    if x.0 <= 10 {
+        return entry(t, x.1) | entry(t, x.2);
+    }
+    if x.0 <= 12 {
+        return without(entry(t, x.2), x.1);
+    }
+    0
+}
+
+// Those of each node below j.
+fn below(file: &[u8], j: usize) -> [u16; 64]
+    requires { ⌜ j ≤ mostNodes ⌝ }
+    ensures { λ r. ⌜ r ≡ masks (read (now (file .entry)) .nodes) j ⌝ }
+{
+    if j == 0 {
+        return [0u16; 64];
+    }
+    let i = j - 1;
+    let mut t = below(file, i);
+    t[i] = mask_of(t, node(file, i));
+    t
+}
+
+// Those of each node of a file, of the first 64 if it has more.
+pub fn masks(file: &[u8]) -> [u16; 64]
+    ensures { λ r. ⌜ r ≡ masks (read (now (file .entry)) .nodes) (tabled (read (now (file .entry)))) ⌝ }
+{
+    let m = node_count(file);
+    if m <= 64 {
+        below(file, m)
+    } else {
+        below(file, 64)
+    }
+}

@@ -1,0 +1,4 @@
+pub mod Laying
+pub mod Relations
+pub mod MergedBytes
+pub mod Replying

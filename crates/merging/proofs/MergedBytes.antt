@@ -1,0 +1,148 @@
+-- The sections of the merged case are parts of the file and the steps of the rows, and the lengths add up to that of the new file.
+-- Labels are a front and a back of the label section; the rule section is copied whole.
+use mathlib.Core.List.{List, [], _∷_, _++_}
+use mathlib.Core.Path.{_≡_, refl, sym, ap, ap₂, _∙_}
+use Prim.Native.Nat.{ℕ, zero, suc, _+_, _*_, _-_, _/_, _%_, _≤_, _<_}
+use native.Mathlib.Nat.{not-suc-le-zero, le-of-suc-le-suc}
+use native.Mathlib.Omega.{arith}
+use borrow.Author.Tests.{eqb-true}
+use lib.ListN.{length, take, drop, length-append}
+use Rattle.case_model.specs.Bytes.{listOf, byteAt, offset, size, section}
+use Rattle.case_model.specs.Case.{Case, read, flat, write}
+use Rattle.case_model.specs.Rows.{sound, refusals}
+use Rattle.case_model.specs.Merging.{movedSteps, inOrder, merge}
+use Rattle.case_model.proofs.Lists.{length-listOf, listOf-ext}
+use Rattle.case_model.proofs.Tests.{and-l, and-r}
+use Rattle.case_model.proofs.Sections.{within, left-sound, right-sound, unless-sound}
+use Rattle.case_model.proofs.Valid.{Valid, accepted-pairs, accepted-valid}
+use Rattle.case_model.proofs.Codec.{length-flat, length-write}
+use Rattle.case_model.proofs.Merged.{merge-states}
+use Rattle.merging.specs.Laid.{Laid, part, head}
+use Rattle.merging.specs.Relation.{relation, Marks}
+use Rattle.merging.specs.Merged.{total, Named, Measured, mergedFile}
+use Rattle.merging.specs.declared.lay.Sizes.{Sizes}
+use Rattle.merging.specs.declared.rows.Pair.{Pair}
+use Rattle.merging.proofs.Laying.{laid-after, laid-as, laid-file, part-more, part-triples}
+use Rattle.merging.proofs.Relations.{marks-order, order-few}
+
+-- ---- a front and a back of a list of values
+take-listOf : (r n : ℕ) (h : ℕ → ℕ) → r ≤ n → take r (listOf n h) ≡ listOf r h
+unfolding listOf
+take-listOf zero n h l = refl
+take-listOf (suc r) zero h l = absurd (not-suc-le-zero l)
+take-listOf (suc r) (suc n) h l = ap (λ k. h zero ∷ k) (take-listOf r n (λ i. h (suc i)) (le-of-suc-le-suc l))
+
+drop-listOf : (r n : ℕ) (g h : ℕ → ℕ) → r ≤ n → ((i : ℕ) → h (r + i) ≡ g i) → drop r (listOf n h) ≡ listOf (n - r) g
+unfolding listOf
+drop-listOf zero n g h l e =
+    let z : n - 0 ≡ n = omega arith in
+    rw z (listOf-ext n h g (λ i _. let q : 0 + i ≡ i = omega arith in rw q at (e i)))
+drop-listOf (suc r) zero g h l e = absurd (not-suc-le-zero l)
+drop-listOf (suc r) (suc n) g h l e =
+    let z : suc n - suc r ≡ n - r = omega arith in
+    rw z (drop-listOf r n g (λ i. h (suc i)) (le-of-suc-le-suc l) (λ i. let q : suc (r + i) ≡ suc r + i = omega arith in rw q (e i)))
+
+-- ---- an accepted file
+ruleset rows = (left-sound, right-sound, unless-sound, and-l, and-r)
+
+rule-length : (f : List ℕ) → refusals f ≡ sound → size f 2 % 3 ≡ 1
+unfolding refusals
+rule-length f e = eqb-true _ _ (search rows depth 10)
+
+labels-length : (f : List ℕ) → length (read f .labels) ≡ size f 0
+unfolding section
+labels-length f = length-listOf (size f 0) (λ i. byteAt f (offset f 0 + i))
+
+nodes-length : (f : List ℕ) → length (read f .nodes) ≡ size f 2 / 3
+nodes-length f = length-listOf (size f 2 / 3) _
+
+module _ (f : List ℕ) (r : ℕ) (inside : r < length (read f .labels)) where
+  pub labels-are : part f (offset f 0) r ++ part f (offset f 0 + r + 1) (length (read f .labels) - 1 - r) ≡ take r (read f .labels) ++ drop (suc r) (read f .labels)
+  unfolding part section
+  labels-are =
+      let n : length (read f .labels) ≡ size f 0 = labels-length f in
+      let m : length (read f .labels) - 1 - r ≡ size f 0 - suc r = omega arith in
+      sym (ap₂ _++_ (take-listOf r (size f 0) _ (omega arith))
+      (drop-listOf (suc r) (size f 0) (λ i. byteAt f (offset f 0 + r + 1 + i)) _ (omega arith) (λ i. ap (byteAt f) (place (offset f 0) i)) ∙ ap (λ k. listOf k (λ i. byteAt f (offset f 0 + r + 1 + i))) (sym m)))
+    where
+      place : (o i : ℕ) → o + (suc r + i) ≡ o + r + 1 + i
+      place o i = omega arith
+
+module _ (f : List ℕ) (accepted : refusals f ≡ sound) where
+  pub rule-is : part f (offset f 2) (size f 2) ≡ flat (read f .nodes) ++ (read f .root ∷ [])
+  rule-is =
+      let e : size f 2 ≡ suc (3 * (size f 2 / 3)) = omega (arith, rule-length f accepted) in
+      ap (part f (offset f 2)) e ∙ part-more f (offset f 2) (3 * (size f 2 / 3)) ∙ ap (λ l. l ++ (read f .root ∷ [])) (part-triples f (offset f 2) (size f 2 / 3))
+
+  rule-size : length (flat (read f .nodes) ++ (read f .root ∷ [])) ≡ size f 2
+  rule-size =
+      omega (arith, length-append (flat (read f .nodes)) (read f .root ∷ []), length-flat (read f .nodes), nodes-length f, rule-length f accepted)
+
+-- ---- the merged case
+module _ {f : List ℕ} {p : Pair} {rows : List ℕ} {z : Sizes} (m : Measured f p rows z) where
+  c : Case
+  c = merge (read f) (p .kept) (p .removed)
+
+  valid : Valid (read f)
+  valid = accepted-valid f (m .named .accepted)
+
+  states : length (c .labels) ≡ length (read f .labels) - 1
+  unfolding c
+  states = merge-states valid (p .kept) (p .removed) (m .named .apart) (m .named .inside)
+
+  steps : inOrder 2048 (relation rows) ≡ c .steps
+  unfolding c merge
+  steps = marks-order (m .marks)
+
+  step-bytes : length (flat (c .steps)) ≡ z .steps
+  step-bytes = ap (λ l. length (flat l)) (sym steps) ∙ length-flat (inOrder 2048 (relation rows)) ∙ sym (m .steps)
+
+  pub total-is : total z ≡ length (mergedFile f p)
+  unfolding c
+  total-is =
+      let e : length (c .nodes) ≡ length (read f .nodes) = unfold merge in refl in
+      omega (arith, length-write c, states, ap length steps, m .labels, m .steps, m .rule, nodes-length f, rule-length f (m .named .accepted))
+
+  pub merged-laid : {w v1 v2 v3 v4 v5 : List ℕ} {a b d e g : ℕ} (n o q : ℕ) → n ≡ z .labels - p .removed → o ≡ offset f 0 → q ≡ offset f 2
+      → Laid w v1 0 a (head (z .labels) (z .steps) (z .rule)) → Laid v1 v2 a b (part f o (p .removed)) → Laid v2 v3 b d (part f (o + p .removed + 1) n)
+      → Laid v3 v4 d e (flat (inOrder 2048 (relation rows))) → Laid v4 v5 e g (part f q (z .rule)) → Laid w v5 0 g (mergedFile f p)
+  unfolding c write merge
+  merged-laid n o q i j k h1 h2 h3 h4 h5 =
+      let len : n ≡ length (read f .labels) - 1 - p .removed = omega (arith, m .labels) in
+      laid-file (c .labels) (flat (c .steps)) (flat (c .nodes) ++ (c .root ∷ []))
+      (m .labels ∙ sym states) (sym step-bytes) (m .rule ∙ sym (rule-size f (m .named .accepted)))
+      h1 (laid-as ((λ y. part f (j y) (p .removed) ++ part f (j y + p .removed + 1) (len y)) ∙ labels-are f (p .removed) (m .named .inside)) (laid-after h2 h3))
+      (laid-as (ap flat steps) h4) (laid-as (ap₂ (part f) k (m .rule) ∙ rule-is f (m .named .accepted)) h5)
+
+  -- each part lies within the file, and the sizes are small
+  pub record Within : Type 0 where
+    pub first : offset f 0 + length (read f .labels) ≤ length f
+    pub last : offset f 2 + size f 2 ≤ length f
+    pub few : length (read f .labels) ≤ 16
+    pub steps-few : length (inOrder 2048 (relation rows)) ≤ 2048
+    pub rule-few : size f 2 ≤ 193
+
+  pub fits : Within
+  fits =
+      let ok = accepted-pairs f (m .named .accepted) in
+      record {
+        first = omega (arith, within f ok 0 (omega arith), labels-length f);
+        last = within f ok 2 (omega arith);
+        few = valid .few;
+        steps-few = order-few (relation rows) 2048;
+        rule-few = omega (arith, valid .most, nodes-length f, rule-length f (m .named .accepted));
+      }
+
+-- from what is known before anything is measured
+pub named-valid : {f : List ℕ} {p : Pair} {n : ℕ} → Named f p n → Valid (read f)
+named-valid {f} h = accepted-valid f (h .accepted)
+
+pub measured : {f : List ℕ} {p : Pair} {n : ℕ} {rows : List ℕ} (z : Sizes) → Named f p n → Marks (movedSteps (p .kept) (p .removed) (read f .steps)) rows
+    → z .labels ≡ n - 1 → z .steps ≡ 3 * length (inOrder 2048 (relation rows)) → z .rule ≡ size f 2 → Measured f p rows z
+measured {f} {p} z h m i j k = record {
+  named = record { accepted = h .accepted; states = refl; apart = h .apart; inside = omega (arith, h .states) };
+  marks = m;
+  labels = omega (arith, h .states);
+  steps = j;
+  rule = k;
+}

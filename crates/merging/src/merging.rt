@@ -1,0 +1,84 @@
+// Merging: the lower of two alike states is kept and stands for both, the higher is removed.
+ghost use mathlib.Core.Path.{_≡_};
+ghost use Prim.Native.Nat.{_≤_};
+ghost use lib.ListN.{length};
+ghost use Rattle.case_model.specs.Merging.{counted, written, merging};
+ghost use Rattle.bisim.specs.Told.{told};
+ghost use Rattle.merging.specs.Laid.{Laid};
+ghost use Rattle.merging.specs.Merged.{total, Named, Measured, mergedFile, fitting};
+use crate::lay::Sizes;
+use crate::lay::put_head;
+use crate::lay::put_part;
+use crate::rows::Pair;
+use crate::rows::count;
+use crate::rows::merged_rows;
+use crate::rows::put_steps;
+use bisim::Written;
+use bisim::are_alike;
+use bisim::refused;
+use bisim::turned_back;
+use case_file::Case;
+use case_file::Reason;
+use case_file::Vetted;
+use case_reader::section_offset;
+use case_reader::section_size;
+
+// The head, the labels without the removed one, the steps and the rule.
+fn put_merged(file: &[u8], pair: Pair, rows: [u16; 128], sizes: Sizes, out: &mut [u8]) -> usize
+    requires { ⌜ Measured (now file) pair rows sizes × (total sizes ≤ length (now out)) ⌝ }
+    ensures { λ r. ⌜ Laid (now (out .entry)) (now (out .exit)) 0 r (mergedFile (now (file .entry)) pair) ⌝ }
+{
+    let labels = section_offset(file, 0);
+    let rule = section_offset(file, 2);
+    let below = pair.removed;
+    let above = sizes.labels - below;
+    let first = put_head(sizes, out);
+    let second = put_part(file, labels, below, out, first);
+    let third = put_part(file, labels + below + 1, above, out, second);
+    let fourth = put_steps(rows, out, third);
+    put_part(file, rule, sizes.rule, out, fourth)
+}
+
+// Merges two alike states, if there is room.
+fn merge_pair(file: &[u8], pair: Pair, n: usize, out: &mut [u8]) -> Written
+    requires { ⌜ Named (now file) pair n ⌝ }
+    ensures { λ r. ⌜ told r ≡ counted (fitting (now (file .entry)) pair (length (now (out .entry)))) ⌝ }
+    ensures { λ r. ⌜ now (out .exit) ≡ written (fitting (now (file .entry)) pair (length (now (out .entry)))) (now (out .entry)) ⌝ }
+{
+    let rows = merged_rows(file, pair);
+    let labels = n - 1;
+    let steps = 3 * count(rows);
+    let rule = section_size(file, 2);
+    let all = 12 + labels + steps + rule;
+    if out.len() < all {
+        return refused(Reason::Room);
+    }
+    let sizes = Sizes {
+        labels,
+        steps,
+        rule,
+    };
+    put_merged(file, pair, rows, sizes, out);
+    Written::Bytes(all)
+}
+
+// Merges s and t, given in either order, and writes the new case.
+pub fn merge(file: &[u8], s: usize, t: usize, out: &mut [u8]) -> Written
+    ensures { λ r. ⌜ told r ≡ counted (merging (now (file .entry)) s t (length (now (out .entry)))) ⌝ }
+    ensures { λ r. ⌜ now (out .exit) ≡ written (merging (now (file .entry)) s t (length (now (out .entry)))) (now (out .entry)) ⌝ }
+{
+    let vetted = Case::new(file);
+    let Vetted::Case(case) = vetted else {
+        return turned_back(vetted);
+    };
+    let n = case.states();
+    let inside = (s < n) & (t < n);
+    if !inside {
+        return refused(Reason::Beyond);
+    }
+    let mergeable = (s != t) & are_alike(file, s, t);
+    if !mergeable {
+        return refused(Reason::Unlike);
+    }
+    merge_pair(file, Pair::of(s, t), n, out)
+}
