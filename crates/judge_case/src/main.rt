@@ -1,8 +1,14 @@
 // Judges one case from standard input on all its states, and prints which of them keep the rule, or the refusal.
-ghost use mathlib.Core.Bool.{true};
+ghost use mathlib.Core.Bool.{true, cond};
+ghost use mathlib.Core.List.{_++_};
 ghost use mathlib.Core.Path.{_≡_};
-ghost use Prim.Native.Nat.{_≤_};
-ghost use Rattle.flc.specs.Sets.{setOf};
+ghost use Prim.Native.Nat.{_+_, _≤_, _<_};
+ghost use lib.ListN.{length};
+ghost use Rattle.flc.specs.Sets.{setOf, has};
+ghost use Rattle.case_model.specs.Replies.{Reply};
+ghost use Rattle.case_file.specs.Told.{number};
+ghost use Rattle.judge.specs.Told.{answer};
+ghost use Rattle.judge_case.specs.Printed.{yesText, noText, numeral, line, printed, page, Shows, Grew};
 use case_file::Refusal;
 use case_file::Vetted;
 use judge::Judged;
@@ -16,30 +22,114 @@ fn all_states(n: usize) -> u16
     ((1usize << n) - 1) as u16
 }
 
-fn line(what: &[u8], n: u64) {
-    io::write_all(1, what);
-    io::print_decimal(1, n);
-    io::write_all(1, b"\n");
+// Is state s in the set?
+fn holds(set: u16, s: usize) -> bool
+    requires { ⌜ s < 16 ⌝ }
+    ensures { λ r. ⌜ r ≡ has set s ⌝ }
+{
+    (set >> s) % 2 == 1
 }
 
-fn print_refusal(refusal: Refusal) {
-    io::write_all(1, b"refused ");
-    io::print_decimal(1, refusal.number());
-    line(b" ", refusal.place as u64);
+// What is to be printed: the first `length` bytes.
+struct Page {
+    bytes: [u8; 512],
+    length: usize,
 }
 
-fn print_verdict(states: usize, verdict: Verdict) {
-    line(b"states ", states as u64);
-    line(b"rounds ", verdict.rounds as u64);
-    let mut rest = verdict.set;
-    for s in 0..states {
-        io::print_decimal(1, s as u64);
-        if rest % 2 == 1 {
-            io::write_all(1, b" yes\n");
-        } else {
-            io::write_all(1, b" no\n");
+impl Page {
+    fn new() -> Page
+        ensures { λ r. ⌜ r .length ≡ 0 ⌝ }
+    {
+        Page {
+            bytes: [0u8; 512],
+            length: 0,
         }
-        rest = rest / 2;
+    }
+
+    // The page with a text more.
+    fn text(self, what: &[u8]) -> Page
+        requires { ⌜ self .length + length (now what) ≤ 512 ⌝ }
+        ensures { λ r. ⌜ Grew self r (now (what .entry)) ⌝ }
+    {
+        let base = self.length;
+        let mut bytes = self.bytes;
+        let count = what.len();
+        for i in 0..count {
+            bytes[base + i] = what[i];
+        }
+        Page {
+            bytes,
+            length: base + count,
+        }
+    }
+
+    fn number(self, n: u64) -> Page
+        requires { ⌜ self .length + 20 ≤ 512 ⌝ }
+        ensures { λ r. ⌜ Grew self r (numeral n) ⌝ }
+    {
+        let mut digits = [0u8; 20];
+        let count = io::decimal(n, &mut digits);
+        self.text(&digits[..count])
+    }
+
+    // A line: a text and a number.
+    fn line(self, what: &[u8], n: u64) -> Page
+        requires { ⌜ self .length + length (now what) + 21 ≤ 512 ⌝ }
+        ensures { λ r. ⌜ Grew self r (line (now (what .entry)) n) ⌝ }
+    {
+        self.text(what).number(n).text(b"\n")
+    }
+
+    // The line of state s.
+    fn state(self, s: usize, holds: bool) -> Page
+        requires { ⌜ self .length + 25 ≤ 512 ⌝ }
+        ensures { λ r. ⌜ Grew self r (numeral s ++ cond holds yesText noText) ⌝ }
+    {
+        let next = self.number(s as u64);
+        if holds {
+            next.text(b" yes\n")
+        } else {
+            next.text(b" no\n")
+        }
+    }
+}
+
+fn refusal_page(refusal: Refusal) -> Page
+    ensures { λ r. ⌜ Shows r (printed 0 (Reply.refuses (number (refusal .reason)) (refusal .place))) ⌝ }
+{
+    let number = refusal.number();
+    Page::new()
+        .text(b"refused ")
+        .number(number)
+        .line(b" ", refusal.place as u64)
+}
+
+fn verdict_page(states: usize, verdict: Verdict) -> Page
+    requires { ⌜ states ≤ 16 ⌝ }
+    ensures { λ r. ⌜ Shows r (printed states (Reply.answers (answer verdict))) ⌝ }
+{
+    let mut page = Page::new()
+        .line(b"states ", states as u64)
+        .line(b"rounds ", verdict.rounds as u64);
+    for s in 0..states {
+        page = page.state(s, holds(verdict.set, s));
+    }
+    page
+}
+
+// What is printed of a file, judged on all its states.
+fn page_of(file: &[u8], work: &mut [u16]) -> Page
+    ensures { λ r. ⌜ Shows r (page (now (file .entry)) (length (now (work .entry)))) ⌝ }
+{
+    let vetted = case_file::vet(file, 0);
+    let Vetted::Case(case) = vetted else {
+        return refusal_page(case_file::refusal(vetted));
+    };
+    let n = case.states();
+    let judged = judge::judge(file, all_states(n), work);
+    match judged {
+        Judged::Verdict(verdict) => verdict_page(n, verdict),
+        Judged::Refused(refusal) => refusal_page(refusal),
     }
 }
 
@@ -48,16 +138,8 @@ fn main() {
     let mut buffer = [0u8; 6366];
     let mut work = [0u16; 32768];
     let length = io::read_full(0, &mut buffer);
-    let file = &buffer[..length];
-    let vetted = case_file::vet(file, 0);
-    let Vetted::Case(case) = vetted else {
-        print_refusal(case_file::refusal(vetted));
-        return;
-    };
-    let n = case.states();
-    let judged = judge::judge(file, all_states(n), &mut work);
-    match judged {
-        Judged::Verdict(verdict) => print_verdict(n, verdict),
-        Judged::Refused(refusal) => print_refusal(refusal),
-    }
+    let page = page_of(&buffer[..length], &mut work);
+    let bytes = page.bytes;
+    let count = page.length;
+    io::write_all(1, &bytes[..count]);
 }

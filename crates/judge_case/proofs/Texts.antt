@@ -1,0 +1,105 @@
+-- Texts in an array, byte by byte, and numerals.
+-- After i turns the array has the old text and the first i bytes of the new one; the digits of a number are as few as hold it, so they are its numeral.
+use Prim.Native.Nat.{ℕ, zero, suc, _+_, _-_, _/_, _^_, _≤_, _<_}
+use mathlib.Core.Bool.{Bool, true, false, cond}
+use mathlib.Core.List.{List, [], _∷_, _++_, append-assoc, append-nil}
+use mathlib.Core.Path.{_≡_, refl, sym, ap, _∙_, subst}
+use native.Mathlib.Decide.{ℕ-discrete, decLt}
+use native.Mathlib.Nat.{le-trans, pow-le-pow-right}
+use native.Mathlib.Numerals.{add-one}
+use native.Mathlib.Omega.{arith}
+use borrow.Author.Tests.{lt-ltb, le-ltb}
+use lib.Dec.{ltb}
+use lib.ListN.{length, take, set, getD, length-append}
+use lib.Seq.{take-suc, take-suc-set, take-length, length-take-le}
+use Rattle.io.specs.Digits.{digits, Fewest}
+use Rattle.flc.specs.Sets.{first, has}
+use Rattle.flc.proofs.Tests.{first-le}
+use Rattle.judge_case.specs.declared.Page.{Page}
+use Rattle.judge_case.specs.Printed.{yesText, noText, end, numeral, line, lines, text, Shows, Grew}
+
+-- one byte more
+pub one-byte : (w v what : List ℕ) (base i : ℕ) → take (base + i) v ≡ take base w ++ take i what → base + i < length v → i < length what
+    → take (base + (i + 1)) (set v (base + i) (getD what i 0)) ≡ take base w ++ take (i + 1) what
+one-byte w v what base i e h l =
+    let s : base + (i + 1) ≡ suc (base + i) = omega arith in
+    rw (s, add-one i) (
+    take-suc-set v (base + i) (getD what i 0) h ∙ ap (λ z. z ++ (getD what i 0 ∷ [])) e
+    ∙ append-assoc (take base w) (take i what) _ ∙ ap (λ z. take base w ++ z) (sym (take-suc what i 0 l))
+    )
+
+-- the whole of a text
+pub all-of : (w v what : List ℕ) (base i k : ℕ) → take (base + i) v ≡ take base w ++ take i what → i ≡ k → k ≡ length what → take (base + k) v ≡ take base w ++ what
+all-of w v what base i k e h l =
+    ap (λ z. take (base + z) v) (sym h) ∙ e ∙ ap (λ z. take base w ++ take z what) (h ∙ l) ∙ ap (λ z. take base w ++ z) (take-length what)
+
+-- ---- numerals
+-- the first number from i on that passes
+first-is : (p : ℕ → Bool) (i k r : ℕ) → i ≤ r → r ≤ i + k → ((j : ℕ) → i ≤ j → j < r → p j ≡ false) → (r < i + k → p r ≡ true) → first p i k ≡ r
+unfolding first
+first-is p i zero r h l f t = omega arith
+first-is p i (suc k) r h l f t = elim (ℕ-discrete i r) [
+  | yes e ↦ rw (subst (λ z. p z ≡ true) (sym e) (t (omega arith))) e
+  | no n ↦ rw (f i (omega arith) (omega arith)) (first-is p (suc i) k r (omega arith) (omega arith) (λ j a b. f j (omega arith) b) (λ a. t (omega arith)))
+]
+
+pub fewest : (n r : ℕ) → r ≤ 20 → Fewest 10 1 n r → digits 10 r n ≡ numeral n
+unfolding numeral
+fewest n r h (some, holds, least) =
+    ap (λ k. digits 10 k n) (sym (first-is (λ k. ltb n (10 ^ k)) 1 19 r some (omega arith)
+    (λ j a b. le-ltb n (10 ^ j) (le-trans (pow-le-pow-right (omega arith) {i = j} {j = r - 1} (omega arith)) (least (omega arith))))
+    (λ a. lt-ltb n (10 ^ r) holds)))
+
+-- a number of 64 bits has at most 20
+pub few-digits : (n r : ℕ) → n < 18446744073709551616 → Fewest 10 1 n r → r ≤ 20
+few-digits n r h (some, holds, least) = elim (decLt 20 r) [
+  | yes l ↦ absurd (omega (arith, least (omega arith), pow-le-pow-right {n = 10} (omega arith) {i = 20} {j = r - 1} (omega arith)))
+  | no l ↦ omega arith
+]
+
+-- a numeral has at most 20 digits
+digits-long : (k n : ℕ) → length (digits 10 k n) ≡ k
+digits-long zero n = refl
+digits-long (suc k) n = length-append (digits 10 k (n / 10)) _ ∙ rw (digits-long k (n / 10)) (add-one k)
+
+pub numeral-short : (n : ℕ) → length (numeral n) ≤ 20
+unfolding numeral
+numeral-short n = rw (digits-long (first (λ k. ltb n (10 ^ k)) 1 19) n) (first-le (λ k. ltb n (10 ^ k)) 1 19)
+
+-- ---- pages
+-- a text after a text
+pub grew-after : {p q r : Page} {l m : List ℕ} → Grew p q l → Grew q r m → Grew p r (l ++ m)
+grew-after {p} {q} {r} {l} {m} a b = record {
+  is = b .is ∙ ap (λ z. z ++ m) (a .is) ∙ append-assoc (text p) l m;
+  long = omega (arith, a .long, b .long, length-append l m);
+  room = b .room;
+}
+
+pub grew-as : {p r : Page} {l m : List ℕ} → l ≡ m → Grew p r l → Grew p r m
+grew-as {p} {r} e a = subst (λ l. Grew p r l) e a
+
+-- from the empty page on
+pub shows : {p r : Page} {l : List ℕ} → p .length ≡ 0 → Grew p r l → r .length ≤ 512 → Shows r l
+shows {p} {r} {l} z a h = record { is = a .is ∙ ap (λ k. take k (p .bytes) ++ l) z; fits = (omega (arith, a .room), sym (length-take-le (r .length) (r .bytes) (omega (arith, a .room)))) }
+
+pub grew-none : (p : Page) → length (p .bytes) ≡ 512 → Grew p p []
+grew-none p h = record { is = sym (append-nil (text p)); long = omega arith; room = h }
+
+-- a line has as many bytes as its words, and at most 21 more
+pub line-short : (what : List ℕ) (n : ℕ) → length (line what n) ≤ length what + 21
+line-short what n = omega (arith, length-append what (numeral n ++ end), length-append (numeral n) end, numeral-short n)
+
+pub state-short : (s : ℕ) (b : Bool) → length (numeral s ++ cond b yesText noText) ≤ 25
+state-short s b = omega (arith, length-append (numeral s) (cond b yesText noText), numeral-short s, go b)
+  where
+    go : (b : Bool) → length (cond b yesText noText) ≤ 5
+    go true = omega arith
+    go false = omega arith
+
+-- one state more
+pub one-state : {p q r : Page} (s x : ℕ) {b : Bool} → b ≡ has x s → Grew p q (lines s x) → Grew q r (numeral s ++ cond b yesText noText) → Grew p r (lines (s + 1) x)
+unfolding lines
+one-state {p} {q} {r} s x e a h = rw (add-one s) (subst (λ b. Grew p r (lines s x ++ (numeral s ++ cond b yesText noText))) e (grew-after a h))
+
+pub shows-as : {p : Page} {l m : List ℕ} → l ≡ m → Shows p l → Shows p m
+shows-as {p} e a = subst (Shows p) e a

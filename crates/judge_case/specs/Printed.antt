@@ -1,0 +1,73 @@
+-- What the program prints, as bytes. Document 01, "Case F and its print": "prints n, rounds, then each state with yes or no".
+use Prim.Native.Nat.{ℕ, zero, suc, _+_, _^_}
+use mathlib.Core.Bool.{cond}
+use mathlib.Core.List.{List, [], _∷_, _++_}
+use mathlib.Core.Path.{_≡_}
+use lib.Dec.{ltb}
+use lib.ListN.{length, take}
+use Rattle.io.specs.Counts.{Counts}
+use Rattle.io.specs.Digits.{digits}
+use Rattle.flc.specs.Sets.{first, has}
+use Rattle.case_model.specs.Case.{read}
+use Rattle.case_model.specs.Replies.{Reply, answers, refuses}
+use Rattle.case_model.specs.Judging.{Verdict, judging}
+use Rattle.case_model.specs.Run.{allStates}
+use Rattle.judge_case.specs.declared.Page.{Page}
+
+-- "states ", "rounds ", "refused ", " yes", " no", each with what follows it on its line
+abbrev pub states : List ℕ
+states = 115 ∷ 116 ∷ 97 ∷ 116 ∷ 101 ∷ 115 ∷ 32 ∷ []
+
+abbrev pub rounds : List ℕ
+rounds = 114 ∷ 111 ∷ 117 ∷ 110 ∷ 100 ∷ 115 ∷ 32 ∷ []
+
+abbrev pub refused : List ℕ
+refused = 114 ∷ 101 ∷ 102 ∷ 117 ∷ 115 ∷ 101 ∷ 100 ∷ 32 ∷ []
+
+abbrev pub yesText : List ℕ
+yesText = 32 ∷ 121 ∷ 101 ∷ 115 ∷ 10 ∷ []
+
+abbrev pub noText : List ℕ
+noText = 32 ∷ 110 ∷ 111 ∷ 10 ∷ []
+
+abbrev pub end : List ℕ
+end = 10 ∷ []
+
+abbrev pub space : List ℕ
+space = 32 ∷ []
+
+-- a number in decimal, with as few digits as hold it
+unfoldable pub numeral : ℕ → List ℕ
+numeral n = digits 10 (first (λ k. ltb n (10 ^ k)) 1 19) n
+
+abbrev pub line : List ℕ → ℕ → List ℕ
+line what n = what ++ (numeral n ++ end)
+
+-- "each state with yes or no": the states below n, of which those in x hold
+unfoldable pub lines : ℕ → ℕ → List ℕ
+lines zero x = []
+lines (suc s) x = lines s x ++ (numeral s ++ cond (has x s) yesText noText)
+
+-- "A refusal prints one line only, as `refused 7 0`: number, then place."
+unfoldable pub printed : ℕ → Reply Verdict → List ℕ
+printed n (answers v) = line states n ++ (line rounds (v .rounds) ++ lines n (v .set))
+printed n (refuses k p) = refused ++ (numeral k ++ line space p)
+
+-- "judges on all states"
+unfoldable pub page : List ℕ → ℕ → List ℕ
+page f words = printed (length (read f .labels)) (judging f (allStates (read f)) words)
+
+-- ---- a page of text in the code
+abbrev pub text : Page → List ℕ
+text p = take (p .length) (p .bytes)
+
+-- the page shows the text l
+pub record Shows (p : Page) (l : List ℕ) : Type 0 where
+  pub is : text p ≡ l
+  pub fits : Counts (p .length) (p .bytes)
+
+-- the page r is p with the text l more
+pub record Grew (p r : Page) (l : List ℕ) : Type 0 where
+  pub is : text r ≡ text p ++ l
+  pub long : r .length ≡ p .length + length l
+  pub room : length (r .bytes) ≡ 512
