@@ -1,10 +1,9 @@
 //! Writes the files of the folder `cases` anew.
-use std::path::Path;
+use differential::drives::{drives, folder};
 
 fn main() -> std::io::Result<()> {
-    let folder = Path::new(env!("CARGO_MANIFEST_DIR")).join("../../cases");
-    for (name, case) in differential::drives::drives() {
-        std::fs::write(folder.join(name), plain::write(&case))?;
+    for (name, case) in drives() {
+        std::fs::write(folder().join(name), plain::write(&case))?;
     }
     Ok(())
 }

@@ -6,6 +6,7 @@ mod sections;
 use crate::generate::case_where;
 use crate::rng::Rng;
 use plain::{Case, Refusal};
+use std::fmt::Debug;
 
 pub struct Damaged {
     pub file: Vec<u8>,
@@ -36,6 +37,22 @@ pub const DAMAGES: [(&str, Damage); 20] = [
     ("second binder", nodes::second_binder),
     ("free variable", nodes::free_variable),
 ];
+
+/// Draws so many files with each damage, from a seed of its own, of which the first is `seed`.
+/// Each file's reply must be the refusal of its fault.
+pub fn expect_refusals<T: Debug + PartialEq>(
+    seed: u64,
+    files: usize,
+    mut reply: impl FnMut(&mut Rng, &[u8]) -> Result<T, Refusal>,
+) {
+    for (seed, (name, damage)) in (seed..).zip(DAMAGES) {
+        let mut rng = Rng::new(seed);
+        for _ in 0..files {
+            let Damaged { file, refusal } = damage(&mut rng);
+            assert_eq!(reply(&mut rng, &file), Err(refusal), "{name}: {file:?}");
+        }
+    }
+}
 
 fn damaged(file: Vec<u8>, number: u32, place: usize) -> Damaged {
     let refusal = Refusal::new(number, place);

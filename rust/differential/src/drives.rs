@@ -1,5 +1,17 @@
-//! The cases of document 01's section "Drives to try", as data. The folder `cases` holds their files.
+//! The cases of the folder `cases`, as data: document 01's "Drives to try", and a label printer's.
+use crate::printer;
 use plain::{Case, Triple};
+use std::fs;
+use std::path::{Path, PathBuf};
+
+pub fn folder() -> PathBuf {
+    Path::new(env!("CARGO_MANIFEST_DIR")).join("../../cases")
+}
+
+/// The bytes of a file of the folder.
+pub fn read(name: &str) -> Vec<u8> {
+    fs::read(folder().join(name)).expect("a file of the folder cases")
+}
 
 /// Each case with the name of its file.
 pub fn drives() -> Vec<(&'static str, Case)> {
@@ -14,6 +26,17 @@ pub fn drives() -> Vec<(&'static str, Case)> {
         ("nu.case", one_state(&[(4, 0, 0), (12, 0, 0)])),
         ("chop_and.case", chop_and()),
         ("and_chops.case", and_chops()),
+        ("feed_and_back.case", printer::feed_and_back()),
+        (
+            "no_more_back_than_fed.case",
+            printer::no_more_back_than_fed(),
+        ),
+        ("exactly_as_many_back.case", printer::exactly_as_many_back()),
+        ("at_rest_after_any.case", printer::at_rest_after_any()),
+        (
+            "pulled_back_fed_again.case",
+            printer::pulled_back_fed_again(),
+        ),
     ]
 }
 
@@ -105,8 +128,15 @@ fn one_state(nodes: &[Triple]) -> Case {
     case(&[0], &[], nodes)
 }
 
-/// The root of every drive is its last node.
-fn case(labels: &[u8], steps: &[Triple], nodes: &[Triple]) -> Case {
+/// The longest case: 16 states, every step that there can be, 64 nodes.
+pub fn longest() -> Case {
+    let step = |i: usize| ((i / 128) as u8, (i / 16 % 8) as u8, (i % 16) as u8);
+    let steps: Vec<Triple> = (0..2048).map(step).collect();
+    case(&[255; 16], &steps, &[(0, 0, 0); 64])
+}
+
+/// A case whose root is its last node.
+pub fn case(labels: &[u8], steps: &[Triple], nodes: &[Triple]) -> Case {
     Case {
         labels: labels.to_vec(),
         steps: steps.to_vec(),

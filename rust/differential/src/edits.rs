@@ -1,13 +1,14 @@
 //! The comparison of classes, merging and rewriting by the two checkers, every lent byte included.
+use crate::replies::{in_plain, refused};
 use crate::rng::Rng;
 use plain::{Book, Edit, Refusal};
 use std::hint::black_box;
 
+/// Room for every result.
+pub use hoidrul::LONGEST;
+
 /// The bytes that were written.
 pub type Written = Result<Vec<u8>, Refusal>;
-
-/// The longest case: room for every result.
-pub const LONGEST: usize = 6365;
 
 /// Bytes on either side of the lent area, to see that nothing is written there.
 const MARGIN: usize = 16;
@@ -55,7 +56,7 @@ pub fn rooms(file: &[u8], result: &[u8], mut call: impl FnMut(&[u8], usize) -> W
     let near = length.saturating_sub(4)..=length + 4;
     for room in near.chain([0, 1, length / 2, 2 * length, LONGEST + 100]) {
         let expected = if room < length {
-            Err(Refusal::new(13, 0))
+            refused(13, 0)
         } else {
             Ok(result.to_vec())
         };
@@ -86,7 +87,7 @@ fn expect(
     let reply = call(file, &mut area[MARGIN..MARGIN + room]);
 
     assert!(black_box(file) == file_before, "the lent file was changed");
-    let reply = reply.map_err(|refusal| Refusal::new(refusal.number, refusal.place));
+    let reply = in_plain(reply);
     let length = expected.as_ref().map(Vec::len).map_err(|&refusal| refusal);
     assert_eq!(reply, length, "{what:?}, {room} bytes, file {file:?}");
     let mut after = before;

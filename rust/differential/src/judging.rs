@@ -1,4 +1,5 @@
 //! The comparison of judging by the two checkers, every lent word included.
+use crate::replies::in_plain;
 use crate::rng::Rng;
 use plain::{Case, Refusal, Verdict};
 use std::hint::black_box;
@@ -79,9 +80,7 @@ pub fn proved(file: &[u8], set: u16, words: usize) -> Judged {
         black_box(&area) == &expected,
         "the work area after {reply:?}, set {set}, {words} words, file {file:?}"
     );
-    reply
-        .map(|verdict| in_states(file, verdict))
-        .map_err(|refusal| Refusal::new(refusal.number, refusal.place))
+    in_plain(reply).map(|verdict| in_states(file, verdict))
 }
 
 /// The verdict with its set state by state; bits beyond the case must be 0.
@@ -93,7 +92,7 @@ fn in_states(file: &[u8], verdict: hoidrul::Verdict) -> Verdict {
         "states beyond {states}"
     );
     Verdict {
-        states: (0..states).map(|s| verdict.set >> s & 1 == 1).collect(),
+        states: (0..states).map(|s| verdict.holds(s)).collect(),
         rounds: verdict.rounds,
     }
 }

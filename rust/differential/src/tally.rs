@@ -1,4 +1,5 @@
 //! The comparison of the two checkers, and a count of what was compared.
+use crate::replies::in_plain;
 use plain::Refusal;
 use std::hint::black_box;
 use std::ops::Range;
@@ -37,23 +38,16 @@ impl Tally {
 /// Vets and opens by both checkers, which must agree, and returns their reply.
 pub fn compare(file: &[u8], section: usize) -> Reply {
     let before = file.to_vec();
-    let proved = proved_reply(file, section);
-    let part = part_of(file, hoidrul::open(file, section));
+    let proved = in_plain(hoidrul::vet(file, section));
+    let proved = proved.map(|counts| (counts.states, counts.nodes));
+    let part = in_plain(hoidrul::open(file, section)).map(|part| part_of(file, part));
     assert!(black_box(file) == before, "the lent file was changed");
 
     let plain = plain::vet(file, section);
     assert_eq!(proved, plain, "vetting section {section} of {file:?}");
-    // Where opening refuses, the part is empty and begins with the file.
-    let expected = plain::open(file, section).unwrap_or(0..0);
+    let expected = plain::open(file, section);
     assert_eq!(part, expected, "opening section {section} of {file:?}");
     plain
-}
-
-fn proved_reply(file: &[u8], section: usize) -> Reply {
-    match hoidrul::vet(file, section) {
-        Ok(counts) => Ok((counts.states, counts.nodes)),
-        Err(refusal) => Err(Refusal::new(refusal.number, refusal.place)),
-    }
 }
 
 /// Where the part stands within the file: by its address, so that a copy is not taken for it.

@@ -1,12 +1,7 @@
 //! The files of the folder `cases`.
-use differential::drives::drives;
+use differential::drives::{drives, folder, read};
 use differential::tally::compare;
 use std::fs;
-use std::path::PathBuf;
-
-fn folder() -> PathBuf {
-    PathBuf::from(env!("CARGO_MANIFEST_DIR")).join("../../cases")
-}
 
 /// The 51 bytes that document 01 prints.
 const F: [u8; 51] = [
@@ -20,14 +15,13 @@ const F: [u8; 51] = [
 
 #[test]
 fn case_f_has_the_bytes_of_document_01() {
-    assert_eq!(fs::read(folder().join("f.case")).unwrap(), F);
+    assert_eq!(read("f.case"), F);
 }
 
 #[test]
 fn files_are_those_of_the_drives() {
     for (name, case) in drives() {
-        let file = fs::read(folder().join(name)).unwrap();
-        assert_eq!(plain::parse(&file), Ok(case), "{name}");
+        assert_eq!(plain::parse(&read(name)), Ok(case), "{name}");
     }
 }
 

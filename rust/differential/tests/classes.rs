@@ -1,11 +1,12 @@
 //! Classes of alike states by both checkers, from fixed seeds. The comparison checks every byte
 //! that is lent.
-use differential::damage::DAMAGES;
+use differential::damage::expect_refusals;
 use differential::edits::{classes, rooms};
+use differential::replies::refused;
 use differential::rng::Rng;
 use differential::strange::STRANGE;
 use differential::{alike_tables, drives, generate};
-use plain::{classes_by_all_relations, write, Refusal};
+use plain::{classes_by_all_relations, write};
 
 #[test]
 fn drives() {
@@ -80,14 +81,7 @@ fn areas_of_every_length() {
 
 #[test]
 fn damaged_cases() {
-    for (seed, (name, damage)) in (640..).zip(DAMAGES) {
-        let mut rng = Rng::new(seed);
-        for _ in 0..50 {
-            let damaged = damage(&mut rng);
-            let reply = classes(&damaged.file, rng.below(32));
-            assert_eq!(reply, Err(damaged.refusal), "{name}: {:?}", damaged.file);
-        }
-    }
+    expect_refusals(640, 50, |rng, file| classes(file, rng.below(32)));
 }
 
 #[test]
@@ -97,7 +91,7 @@ fn strange_files() {
     for draw in STRANGE {
         for _ in 0..300 {
             let reply = classes(&draw(&mut rng), rng.below(16));
-            short += usize::from(reply == Err(Refusal::new(13, 0)));
+            short += usize::from(reply == refused(13, 0));
         }
     }
     assert!(short > 0);

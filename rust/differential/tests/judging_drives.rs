@@ -1,49 +1,67 @@
-//! The drives of document 01, judged by both checkers from the files of the folder `cases`.
-use differential::judging::{compare, compare_with_all_functions, needed, set_of};
-use std::fs;
-use std::path::Path;
-
-fn read(name: &str) -> Vec<u8> {
-    let folder = Path::new(env!("CARGO_MANIFEST_DIR")).join("../../cases");
-    fs::read(folder.join(name)).unwrap()
-}
+//! The files of the folder `cases`, judged by both checkers.
+use differential::drives::{drives, read};
+use differential::judging::{all_states, compare, compare_with_all_functions, needed, set_of};
 
 /// Judges the file on the set: the answer's states, and rounds.
-fn judged(name: &str, on: &[usize]) -> (Vec<usize>, u64) {
+fn judged(name: &str, on: u16) -> (Vec<usize>, u64) {
     let file = read(name);
-    let verdict = compare(&file, set_of(on), needed(&file)).unwrap();
+    let verdict = compare(&file, on, needed(&file)).unwrap();
     let all = 0..verdict.states.len();
     (all.filter(|&s| verdict.states[s]).collect(), verdict.rounds)
 }
 
+/// The numbers of a cell, or none.
+fn numbers(cell: &str) -> Vec<usize> {
+    if cell == "none" {
+        return vec![];
+    }
+    let number = |text: &str| text.parse().expect("a number");
+    cell.split(", ").map(number).collect()
+}
+
+/// The tables of cases/README.md say of each file how many states and nodes it has, and which of
+/// its states hold.
+#[test]
+fn every_file_on_all_states() {
+    let tables = String::from_utf8(read("README.md")).unwrap();
+    let mut names = vec![];
+    for line in tables.lines().filter(|line| line.starts_with("| `")) {
+        let cells: Vec<&str> = line.split('|').map(str::trim).collect();
+        let name = cells[1].trim_matches('`');
+        let case = plain::parse(&read(name)).unwrap();
+        let (states, nodes) = (case.labels.len(), case.nodes.len());
+        assert_eq!(numbers(cells[2]), [states, nodes], "{name}");
+        let (holding, _) = judged(name, all_states(states));
+        assert_eq!(holding, numbers(cells[3]), "{name}");
+        names.push(name);
+    }
+    assert!(names.iter().eq(drives().iter().map(|(name, _)| name)));
+}
+
 #[test]
 fn f() {
-    assert_eq!(judged("f.case", &[0, 1]), (vec![0, 1], 2));
-    assert_eq!(judged("f.case", &[]), (vec![0], 2));
+    assert_eq!(judged("f.case", set_of(&[0, 1])), (vec![0, 1], 2));
+    assert_eq!(judged("f.case", 0), (vec![0], 2));
 }
 
 #[test]
 fn two_wheels() {
-    assert_eq!(judged("two_wheels.case", &[3, 7]), (vec![0], 12));
-    assert_eq!(judged("two_wheels.case", &[3, 6]), (vec![0], 12));
-    assert_eq!(judged("two_wheels.case", &[]), (vec![], 12));
-}
-
-#[test]
-fn example_4() {
-    assert_eq!(judged("example_4.case", &[0, 1]).0, [0]);
+    for on in [&[3, 7], &[3, 6]] {
+        assert_eq!(judged("two_wheels.case", set_of(on)), (vec![0], 12));
+    }
+    assert_eq!(judged("two_wheels.case", 0), (vec![], 12));
 }
 
 #[test]
 fn no_binder() {
-    assert_eq!(judged("box.case", &[]), (vec![0], 0));
-    assert_eq!(judged("diamond.case", &[]), (vec![], 0));
-    assert_eq!(judged("tau.case", &[]), (vec![], 0));
+    assert_eq!(judged("box.case", 0), (vec![0], 0));
+    assert_eq!(judged("diamond.case", 0), (vec![], 0));
+    assert_eq!(judged("tau.case", 0), (vec![], 0));
 }
 
 #[test]
 fn binders_that_stand_still() {
-    for on in [&[][..], &[0]] {
+    for on in [0, 1] {
         assert_eq!(judged("mu.case", on), (vec![], 0));
         assert_eq!(judged("nu.case", on), (vec![0], 0));
     }
@@ -51,7 +69,7 @@ fn binders_that_stand_still() {
 
 #[test]
 fn chop_does_not_distribute_on_the_right() {
-    for on in [&[][..], &[1], &[0, 1, 2]] {
+    for on in [0b000, 0b010, 0b111] {
         assert_eq!(judged("chop_and.case", on), (vec![], 0));
         assert_eq!(judged("and_chops.case", on), (vec![0], 0));
     }

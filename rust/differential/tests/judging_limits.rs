@@ -1,31 +1,17 @@
 //! Judging: the last value that passes and the first that does not, by both checkers.
 use differential::drives::{self, wheels};
+use differential::f_changed::{f_with, refused_files};
 use differential::judging::{all_states, compare, compare_sets, needed, proved, set_of, Judged};
-use plain::{write, Case, Refusal, Triple, Verdict};
-
-fn refused(number: u32, place: usize) -> Judged {
-    Err(Refusal::new(number, place))
-}
+use differential::replies::refused;
+use plain::{write, Case, Triple, Verdict};
 
 fn verdict(states: Vec<bool>, rounds: u64) -> Judged {
     Ok(Verdict { states, rounds })
 }
 
-/// Case F with a change.
-fn f_with(change: impl FnOnce(&mut Case)) -> Vec<u8> {
-    let mut case = drives::f();
-    change(&mut case);
-    write(&case)
-}
-
-/// A case whose root is its last node.
+/// A case without labels.
 fn case(states: usize, steps: &[Triple], nodes: &[Triple]) -> Case {
-    Case {
-        labels: vec![0; states],
-        steps: steps.to_vec(),
-        nodes: nodes.to_vec(),
-        root: nodes.len() as u8 - 1,
-    }
+    drives::case(&vec![0; states], steps, nodes)
 }
 
 const TAU: Triple = (5, 0, 0);
@@ -85,18 +71,9 @@ fn rows_are_tested_in_rising_number() {
     assert_eq!(compare(&file, 4, 79), refused(8, 0));
     assert_eq!(compare(&file, 4, 0), refused(8, 0));
     assert_eq!(compare(&file, 3, 0), refused(9, 0));
-    let damaged = [
-        (vec![], refused(1, 0)),
-        (f_with(|f| f.labels = vec![0; 17]), refused(2, 0)),
-        (f_with(|f| f.steps[0] = (0, 0, 2)), refused(3, 0)),
-        (f_with(|f| f.root = 10), refused(4, 0)),
-        (f_with(|f| f.nodes[2] = (10, 0, 2)), refused(5, 2)),
-        (f_with(|f| f.nodes[4] = (12, 0, 3)), refused(6, 9)),
-        (f_with(|f| f.root = 4), refused(7, 0)),
-    ];
-    for (file, reply) in damaged {
+    for (file, refusal) in refused_files() {
         for (set, words) in [(3, 80), (4, 80), (3, 79), (4, 79), (65_535, 0)] {
-            assert_eq!(compare(&file, set, words), reply);
+            assert_eq!(compare(&file, set, words), Err(refusal));
         }
     }
 }

@@ -46,16 +46,35 @@ fn judge_drawn(
     rounds
 }
 
-/// Up to three binders within one another, on every set of up to four states.
+fn judge_within(bounds: Bounds, count: usize, most_sets: usize) -> Rounds {
+    let seed = 300 + bounds.states as u64;
+    judge_drawn(seed, count, most_sets, |rng| case(rng, bounds))
+}
+
+/// Up to three binders within one another.
+const NESTED: Bounds = Bounds {
+    states: 1,
+    nesting: 3,
+    depth: 4,
+};
+
+const SINGLE: Bounds = Bounds {
+    nesting: 1,
+    ..NESTED
+};
+
+/// No binder, so that the plain checker ends soon.
+const UNBOUND: Bounds = Bounds {
+    nesting: 0,
+    depth: 2,
+    ..NESTED
+};
+
+/// On every set of up to four states.
 #[test]
 fn nested_binders() {
     for states in 1..=5 {
-        let bounds = Bounds {
-            states,
-            nesting: 3,
-            depth: 4,
-        };
-        let rounds = judge_drawn(300 + states as u64, 1_000, 16, |rng| case(rng, bounds));
+        let rounds = judge_within(Bounds { states, ..NESTED }, 1_000, 16);
         assert!(rounds.at_least(1) >= 300, "{states} states");
         assert!(states == 1 || rounds.at_least(2) >= 50, "{states} states");
     }
@@ -64,26 +83,15 @@ fn nested_binders() {
 #[test]
 fn single_binders() {
     for states in 6..=8 {
-        let bounds = Bounds {
-            states,
-            nesting: 1,
-            depth: 4,
-        };
-        let rounds = judge_drawn(300 + states as u64, 300, 8, |rng| case(rng, bounds));
+        let rounds = judge_within(Bounds { states, ..SINGLE }, 300, 8);
         assert!(rounds.at_least(2) >= 30, "{states} states");
     }
 }
 
-/// No binder, so that the plain checker ends soon.
 #[test]
 fn large_tables() {
     for states in 9..=16 {
-        let bounds = Bounds {
-            states,
-            nesting: 0,
-            depth: 2,
-        };
-        judge_drawn(300 + states as u64, 8, 8, |rng| case(rng, bounds));
+        judge_within(Bounds { states, ..UNBOUND }, 8, 8);
     }
 }
 
@@ -105,8 +113,8 @@ fn all_monotone_functions() {
         let states = 1 + i % 2;
         let bounds = Bounds {
             states,
-            nesting: 3,
             depth: 3,
+            ..NESTED
         };
         let turns = [0, 3, 36][states];
         let case = loop {

@@ -1,12 +1,13 @@
 //! Refused judgements and work areas of any length, from fixed seeds. The comparison checks every
 //! word that is lent.
-use differential::damage::DAMAGES;
+use differential::damage::expect_refusals;
 use differential::formulas::{self, Bounds};
 use differential::generate;
 use differential::judging::{compare, needed};
+use differential::replies::{in_plain, refused};
 use differential::rng::Rng;
 use differential::strange::STRANGE;
-use plain::{write, Refusal};
+use plain::write;
 
 /// Around the length that is needed, and far from it.
 #[test]
@@ -26,7 +27,7 @@ fn areas_of_every_length() {
         for words in near.chain(far) {
             let reply = compare(&file, set, words);
             if words < needed {
-                assert_eq!(reply, Err(Refusal::new(9, 0)), "{words} words");
+                assert_eq!(reply, refused(9, 0), "{words} words");
             } else {
                 assert!(reply.is_ok(), "{words} words");
             }
@@ -57,18 +58,10 @@ fn sets_and_areas_refused() {
 /// Each fault gets its own row and place, whatever the set and the area.
 #[test]
 fn damaged_cases() {
-    for (seed, (name, damage)) in (420..).zip(DAMAGES) {
-        let mut rng = Rng::new(seed);
-        for _ in 0..200 {
-            let damaged = damage(&mut rng);
-            let words = rng.below(200);
-            let reply = compare(&damaged.file, rng.number() as u16, words);
-            assert_eq!(reply, Err(damaged.refusal), "{name}: {:?}", damaged.file);
-            let area = hoidrul::work_area(&damaged.file).unwrap_err();
-            let area = Refusal::new(area.number, area.place);
-            assert_eq!(area, damaged.refusal, "{name}: {:?}", damaged.file);
-        }
-    }
+    expect_refusals(420, 200, |rng, file| {
+        compare(file, rng.number() as u16, rng.below(200))
+    });
+    expect_refusals(420, 200, |_, file| in_plain(hoidrul::work_area(file)));
 }
 
 /// Files of which only the checkers can tell what they get; areas too short for most that are cases.

@@ -1,10 +1,8 @@
 //! The last value that passes and the first that does not, by both checkers.
+use differential::drives::longest;
+use differential::replies::refused;
 use differential::tally::{compare, Reply};
-use plain::{pack, write, Case, Refusal, Triple};
-
-fn refused(number: u32, place: usize) -> Reply {
-    Err(Refusal::new(number, place))
-}
+use plain::{pack, write, Case, Triple};
 
 fn vetted(states: usize, steps: &[Triple], nodes: &[Triple]) -> Reply {
     let case = Case {
@@ -86,17 +84,6 @@ fn variables() {
     for root in 0..46 {
         case.root = root;
         assert_eq!(compare(&write(&case), 2), refused(7, 0));
-    }
-}
-
-/// 16 states with every transition that there can be, and 64 nodes.
-fn longest() -> Case {
-    let steps = |i: usize| ((i / 128) as u8, (i / 16 % 8) as u8, (i % 16) as u8);
-    Case {
-        labels: vec![0; 16],
-        steps: (0..2048).map(steps).collect(),
-        nodes: vec![TT; 64],
-        root: 63,
     }
 }
 

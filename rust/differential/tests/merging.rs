@@ -1,9 +1,10 @@
 //! Merging by both checkers, from fixed seeds. The comparison checks every byte that is lent.
-use differential::damage::DAMAGES;
+use differential::damage::expect_refusals;
 use differential::edits::{merge, rooms, LONGEST};
+use differential::replies::refused;
 use differential::rng::Rng;
 use differential::{alike_tables, drives};
-use plain::{write, Case, Refusal};
+use plain::write;
 
 /// Each state of the case and some beyond it.
 fn states_and_beyond(states: usize) -> Vec<usize> {
@@ -14,12 +15,11 @@ fn states_and_beyond(states: usize) -> Vec<usize> {
 #[test]
 fn examples_of_the_table() {
     let f = write(&drives::f());
-    let refused = |number| Err(Refusal::new(number, 0));
-    assert_eq!(merge(&f, 0, 1, 51), refused(10));
-    assert_eq!(merge(&f, 1, 1, 51), refused(10));
-    assert_eq!(merge(&f, 2, 2, 51), refused(8));
-    assert_eq!(merge(&f, 0, 2, 0), refused(8));
-    assert_eq!(merge(&f, 0, 1, 0), refused(10));
+    assert_eq!(merge(&f, 0, 1, 51), refused(10, 0));
+    assert_eq!(merge(&f, 1, 1, 51), refused(10, 0));
+    assert_eq!(merge(&f, 2, 2, 51), refused(8, 0));
+    assert_eq!(merge(&f, 0, 2, 0), refused(8, 0));
+    assert_eq!(merge(&f, 0, 1, 0), refused(10, 0));
 }
 
 #[test]
@@ -76,17 +76,10 @@ fn areas_of_every_length() {
     }
 }
 
-/// The longest case: all states alike, every step there can be, 64 nodes.
+/// All states are alike.
 #[test]
 fn the_longest_case() {
-    let steps = (0..2048).map(|i| ((i / 128) as u8, (i / 16 % 8) as u8, (i % 16) as u8));
-    let case = Case {
-        labels: vec![255; 16],
-        steps: steps.collect(),
-        nodes: vec![(0, 0, 0); 64],
-        root: 63,
-    };
-    let file = write(&case);
+    let file = write(&drives::longest());
     assert_eq!(file.len(), LONGEST);
     for (s, t) in [(0, 1), (15, 0), (7, 8), (15, 14)] {
         let result = merge(&file, s, t, LONGEST).unwrap();
@@ -97,13 +90,7 @@ fn the_longest_case() {
 
 #[test]
 fn damaged_cases() {
-    for (seed, (name, damage)) in (730..).zip(DAMAGES) {
-        let mut rng = Rng::new(seed);
-        for _ in 0..50 {
-            let damaged = damage(&mut rng);
-            let (s, t, room) = (rng.below(18), rng.below(18), rng.below(200));
-            let reply = merge(&damaged.file, s, t, room);
-            assert_eq!(reply, Err(damaged.refusal), "{name}: {:?}", damaged.file);
-        }
-    }
+    expect_refusals(730, 50, |rng, file| {
+        merge(file, rng.below(18), rng.below(18), rng.below(200))
+    });
 }

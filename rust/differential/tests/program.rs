@@ -1,15 +1,14 @@
 //! The judging program on standard input, its exact print against what the plain checker says.
-use differential::damage::{Damaged, DAMAGES};
-use differential::drives::{drives, wheels};
+use differential::damage::expect_refusals;
+use differential::drives::{drives, longest, read, wheels};
 use differential::formulas::{self, Bounds};
 use differential::generate;
 use differential::judging::all_states;
 use differential::rng::Rng;
 use plain::{judge, vet, write, Case, Refusal, Triple};
 use std::fmt::Write as _;
-use std::fs;
 use std::io::{ErrorKind, Write};
-use std::path::{Path, PathBuf};
+use std::path::Path;
 use std::process::{Command, Stdio};
 use std::thread::sleep;
 use std::time::Duration;
@@ -17,13 +16,9 @@ use std::time::Duration;
 /// The program's work area, in words.
 const WORDS: usize = 32_768;
 
-fn root() -> PathBuf {
-    Path::new(env!("CARGO_MANIFEST_DIR")).join("../..")
-}
-
 /// What the program prints when these pieces come in on standard input, one after the other.
 fn printed(pieces: &[&[u8]]) -> String {
-    let program = root().join("target/bin/judge_case");
+    let program = Path::new(env!("CARGO_MANIFEST_DIR")).join("../../target/bin/judge_case");
     assert!(
         program.exists(),
         "target/bin/judge_case is missing: run rt check judge_case"
@@ -89,7 +84,7 @@ fn tau(states: usize, nodes: usize) -> Case {
 #[test]
 fn files_of_the_folder() {
     for (name, _) in drives() {
-        let print = check(&fs::read(root().join("cases").join(name)).unwrap());
+        let print = check(&read(name));
         if name == "f.case" {
             assert_eq!(print, "states 2\nrounds 2\n0 yes\n1 yes\n");
         }
@@ -98,7 +93,7 @@ fn files_of_the_folder() {
 
 #[test]
 fn input_in_pieces() {
-    let file = fs::read(root().join("cases/f.case")).unwrap();
+    let file = read("f.case");
     for cut in [1, 12, 50] {
         let (first, second) = file.split_at(cut);
         assert_eq!(printed(&[first, second]), wanted(&file));
@@ -113,10 +108,7 @@ fn no_input() {
 /// The longest case, and input that is longer.
 #[test]
 fn long_input() {
-    let steps = |i: usize| ((i / 128) as u8, (i / 16 % 8) as u8, (i % 16) as u8);
-    let mut longest = tau(16, 64);
-    longest.steps = (0..2048).map(steps).collect();
-    let file = write(&longest);
+    let file = write(&longest());
     assert_eq!(file.len(), 6_365);
     assert_eq!(check(&file), "refused 9 0\n");
     for length in [6_366, 6_367, 8_192, 65_536, 200_000] {
@@ -144,14 +136,10 @@ fn two_digits() {
 
 #[test]
 fn damaged_inputs() {
-    for (seed, (_, damage)) in (500..).zip(DAMAGES) {
-        let mut rng = Rng::new(seed);
-        for _ in 0..5 {
-            let Damaged { file, refusal } = damage(&mut rng);
-            let print = format!("refused {} {}\n", refusal.number, refusal.place);
-            assert_eq!(check(&file), print);
-        }
-    }
+    expect_refusals(500, 5, |_, file| {
+        check(file);
+        vet(file, 0)
+    });
 }
 
 #[test]

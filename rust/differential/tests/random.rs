@@ -1,10 +1,11 @@
 //! Random files by both checkers, from fixed seeds.
-use differential::damage::DAMAGES;
+use differential::damage::expect_refusals;
 use differential::generate::case;
+use differential::replies::refused;
 use differential::rng::Rng;
 use differential::strange::{section, STRANGE};
 use differential::tally::Tally;
-use plain::{parse, write, Refusal};
+use plain::{parse, write};
 
 #[test]
 fn valid_cases() {
@@ -18,7 +19,7 @@ fn valid_cases() {
         let expected = if section < 3 {
             Ok(counts)
         } else {
-            Err(Refusal::new(8, 0))
+            refused(8, 0)
         };
         assert_eq!(tally.compare(&file, section), expected, "{case:?}");
         assert_eq!(parse(&file), Ok(case));
@@ -32,14 +33,7 @@ fn valid_cases() {
 #[test]
 fn damaged_cases() {
     let mut tally = Tally::default();
-    for (seed, (name, damage)) in (100..).zip(DAMAGES) {
-        let mut rng = Rng::new(seed);
-        for _ in 0..3_000 {
-            let damaged = damage(&mut rng);
-            let reply = tally.compare(&damaged.file, section(&mut rng));
-            assert_eq!(reply, Err(damaged.refusal), "{name}: {:?}", damaged.file);
-        }
-    }
+    expect_refusals(100, 3_000, |rng, file| tally.compare(file, section(rng)));
     println!("{tally:?}");
     assert_eq!(tally.calls, 120_000);
     for row in 1..=7 {

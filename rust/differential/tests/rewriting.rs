@@ -1,7 +1,8 @@
 //! Rewriting by both checkers, from fixed seeds. The comparison checks every byte that is lent.
-use differential::damage::DAMAGES;
+use differential::damage::expect_refusals;
 use differential::edits::{rewrite, rooms, LONGEST};
 use differential::formulas::{self, Bounds};
+use differential::replies::refused;
 use differential::rng::Rng;
 use differential::{chops, drives, generate};
 use plain::{write, Case, Refusal, Triple};
@@ -54,9 +55,8 @@ impl Count {
 #[test]
 fn examples_of_the_table() {
     let f = write(&drives::f());
-    let refused = |number| Err(Refusal::new(number, 0));
-    assert_eq!(rewrite(&f, 1, 9, 51), refused(11));
-    assert_eq!(rewrite(&f, 9, 8, 50), refused(13));
+    assert_eq!(rewrite(&f, 1, 9, 51), refused(11, 0));
+    assert_eq!(rewrite(&f, 9, 8, 50), refused(13, 0));
     assert_eq!(rewrite(&f, 9, 8, 51).unwrap()[44..47], [8, 6, 7]);
 }
 
@@ -162,7 +162,7 @@ fn padded(case: &Case, nodes: usize, in_front: bool) -> Case {
 /// One node more fits 63 nodes, two more fit 62.
 #[test]
 fn near_64_nodes() {
-    let mut refused = 0;
+    let mut too_many = 0;
     for case in [
         shape(10, 8, 10, false),
         shape(10, 9, 5, false),
@@ -175,14 +175,14 @@ fn near_64_nodes() {
             let mut count = Count::default();
             let padded = padded(&case, nodes, in_front);
             count.everywhere(&padded);
-            refused += count.refusals[12];
+            too_many += count.refusals[12];
             let node = if in_front { nodes - 4 } else { 4 };
             let file = write(&padded);
             for (law, more) in [(4, 1), (5, 1), (6, 2), (7, 2)] {
                 let fits = rewrite(&write(&case), law, 4, LONGEST).is_ok();
                 let expected = match (fits, nodes + more > 64) {
-                    (false, _) => Err(Refusal::new(11, 0)),
-                    (true, true) => Err(Refusal::new(12, 0)),
+                    (false, _) => refused(11, 0),
+                    (true, true) => refused(12, 0),
                     (true, false) => Ok(file.len() + 3 * more),
                 };
                 let reply = rewrite(&file, law, node, LONGEST).map(|file| file.len());
@@ -193,7 +193,7 @@ fn near_64_nodes() {
             }
         }
     }
-    assert!(refused >= 20, "{refused}");
+    assert!(too_many >= 20, "{too_many}");
 }
 
 #[test]
@@ -217,13 +217,7 @@ fn areas_of_every_length() {
 
 #[test]
 fn damaged_cases() {
-    for (seed, (name, damage)) in (830..).zip(DAMAGES) {
-        let mut rng = Rng::new(seed);
-        for _ in 0..50 {
-            let damaged = damage(&mut rng);
-            let (law, node, room) = (rng.below(11), rng.below(66), rng.below(200));
-            let reply = rewrite(&damaged.file, law, node, room);
-            assert_eq!(reply, Err(damaged.refusal), "{name}: {:?}", damaged.file);
-        }
-    }
+    expect_refusals(830, 50, |rng, file| {
+        rewrite(file, rng.below(11), rng.below(66), rng.below(200))
+    });
 }

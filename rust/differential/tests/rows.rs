@@ -1,18 +1,9 @@
 //! Rows 1 to 8 of document 01's table of refusals, by both checkers.
 use differential::drives;
-use differential::tally::{compare, Reply};
-use plain::{pack, write, Case, Refusal};
-
-fn refused(number: u32, place: usize) -> Reply {
-    Err(Refusal::new(number, place))
-}
-
-/// Case F with a change.
-fn f_with(change: impl FnOnce(&mut Case)) -> Vec<u8> {
-    let mut case = drives::f();
-    change(&mut case);
-    write(&case)
-}
+use differential::f_changed::{f_with, refused_files};
+use differential::replies::refused;
+use differential::tally::compare;
+use plain::{pack, write, Case};
 
 #[test]
 fn case_f_is_answered() {
@@ -23,17 +14,8 @@ fn case_f_is_answered() {
 
 #[test]
 fn examples_of_the_table() {
-    let examples = [
-        (vec![], refused(1, 0)),
-        (f_with(|f| f.labels = vec![0; 17]), refused(2, 0)),
-        (f_with(|f| f.steps[0] = (0, 0, 2)), refused(3, 0)),
-        (f_with(|f| f.root = 10), refused(4, 0)),
-        (f_with(|f| f.nodes[2] = (10, 0, 2)), refused(5, 2)),
-        (f_with(|f| f.nodes[4] = (12, 0, 3)), refused(6, 9)),
-        (f_with(|f| f.root = 4), refused(7, 0)),
-    ];
-    for (file, reply) in examples {
-        assert_eq!(compare(&file, 0), reply);
+    for (file, refusal) in refused_files() {
+        assert_eq!(compare(&file, 0), Err(refusal));
     }
     // The example of row 8 is a set; vetting has the section number.
     assert_eq!(compare(&f_with(|_| ()), 3), refused(8, 0));

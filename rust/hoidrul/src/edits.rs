@@ -1,11 +1,16 @@
 //! Entries that write to an output area: classes, merging, rewriting.
 //!
-//! Each answers the count of bytes written, from the area's start. Output bytes past the result,
-//! and all of them after a refusal, stay as they were.
+//! Each answers the count of bytes written, from the area's start. Output bytes past the result
+//! stay as they were.
 use crate::refusal::answer;
 use crate::{ffi, Refusal};
 
-/// Writes for each state the lowest state alike to it, one byte each.
+/// Writes for each state the lowest state alike to it, one byte each, and answers the count of
+/// bytes, which is that of states.
+///
+/// Two states are alike if some bisimulation relates them: it relates states with equal labels
+/// only, and each step of either is met by one of the other, with the same action and into a
+/// related state.
 ///
 /// Refusals: 1 to 7, then 13 for an area shorter than the result.
 ///
@@ -20,6 +25,9 @@ use crate::{ffi, Refusal};
 /// let mut out = [9; 4];
 /// assert_eq!(hoidrul::classes(&file, &mut out)?, 3);
 /// assert_eq!(out, [0, 0, 2, 9]);
+///
+/// let refusal = hoidrul::classes(&file, &mut [0; 2]).unwrap_err();
+/// assert_eq!(refusal.reason, hoidrul::Reason::Room);
 /// # Ok::<(), hoidrul::Refusal>(())
 /// ```
 pub fn classes(file: &[u8], out: &mut [u8]) -> Result<usize, Refusal> {
@@ -27,7 +35,8 @@ pub fn classes(file: &[u8], out: &mut [u8]) -> Result<usize, Refusal> {
 }
 
 /// Merges two alike states, given in either order: writes the file of the case in which the lower
-/// stands for both.
+/// stands for both, and answers its count of bytes. States above the higher move down by one. On
+/// the set of all states, each state holds exactly if the state standing for it does.
 ///
 /// Refusals: 1 to 7, then 8 for a state beyond the case, 10 for a state with itself or states not
 /// alike, 13 for an area shorter than the result.
@@ -40,19 +49,33 @@ pub fn classes(file: &[u8], out: &mut [u8]) -> Result<usize, Refusal> {
 ///     0, 0, 2, 1, 0, 2, // steps
 ///     5, 0, 0, 0, // rule
 /// ];
-/// let mut out = [0; 64];
+/// let mut out = [0; hoidrul::LONGEST];
 /// let length = hoidrul::merge(&file, 1, 0, &mut out)?;
-/// assert_eq!(hoidrul::open(&out[..length], 0), [0, 0]);
-/// assert_eq!(hoidrul::open(&out[..length], 1), [0, 0, 1]);
+/// assert_eq!(hoidrul::open(&out[..length], hoidrul::LABELS)?, [0, 0]);
+/// assert_eq!(hoidrul::open(&out[..length], hoidrul::STEPS)?, [0, 0, 1]);
 ///
-/// assert_eq!(hoidrul::merge(&file, 0, 2, &mut out).unwrap_err().number, 10);
+/// let refusal = hoidrul::merge(&file, 0, 2, &mut out).unwrap_err();
+/// assert_eq!(refusal.reason, hoidrul::Reason::Unlike);
 /// # Ok::<(), hoidrul::Refusal>(())
 /// ```
 pub fn merge(file: &[u8], s: usize, t: usize, out: &mut [u8]) -> Result<usize, Refusal> {
     count(ffi::merge(file, s, t, out))
 }
 
-/// Rewrites by a law, 1 to 9, at a node: writes the file of the case with that rule.
+/// Rewrites by a law, 1 to 9, at a node: writes the file of the case with that rule, and answers
+/// its count of bytes. The rule keeps its meaning.
+///
+/// | Law | From | To |
+/// |---|---|---|
+/// | 1 | τ;A | A |
+/// | 2 | A;τ | A |
+/// | 3 | q;A with q of kind 0 to 3 | q |
+/// | 4 | (A;B);C | A;(B;C) |
+/// | 5 | A;(B;C) | (A;B);C |
+/// | 6 | (A or B);C | (A;C) or (B;C) |
+/// | 7 | (A and B);C | (A;C) and (B;C) |
+/// | 8 | A or A, A and A, the same node twice | A |
+/// | 9 | A or B, A and B | B or A, B and A |
 ///
 /// Refusals: 1 to 7, then 11 where there is no such law or node or its shape does not fit, 12 where
 /// the rule would pass 64 nodes, 13 for an area shorter than the result.
@@ -65,11 +88,13 @@ pub fn merge(file: &[u8], s: usize, t: usize, out: &mut [u8]) -> Result<usize, R
 ///     0, 0, 0, 1, 0, 0, 8, 0, 1, // nodes
 ///     2, // root
 /// ];
-/// let mut out = [0; 64];
+/// let mut out = [0; hoidrul::LONGEST];
 /// let length = hoidrul::rewrite(&file, 9, 2, &mut out)?;
-/// assert_eq!(hoidrul::open(&out[..length], 2), [0, 0, 0, 1, 0, 0, 8, 1, 0, 2]);
+/// let rule = hoidrul::open(&out[..length], hoidrul::RULE)?;
+/// assert_eq!(rule, [0, 0, 0, 1, 0, 0, 8, 1, 0, 2]);
 ///
-/// assert_eq!(hoidrul::rewrite(&file, 8, 2, &mut out).unwrap_err().number, 11);
+/// let refusal = hoidrul::rewrite(&file, 8, 2, &mut out).unwrap_err();
+/// assert_eq!(refusal.reason, hoidrul::Reason::Shape);
 /// # Ok::<(), hoidrul::Refusal>(())
 /// ```
 pub fn rewrite(file: &[u8], law: usize, node: usize, out: &mut [u8]) -> Result<usize, Refusal> {

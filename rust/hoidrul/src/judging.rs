@@ -1,6 +1,6 @@
 //! Judging: the root's function at a set of states.
 use crate::refusal::answer;
-use crate::{ffi, vet, Refusal};
+use crate::{ffi, vet, Refusal, LABELS};
 
 /// What judging answers.
 #[derive(Clone, Copy, Debug, PartialEq, Eq, Hash)]
@@ -12,11 +12,19 @@ pub struct Verdict {
     pub rounds: u64,
 }
 
-/// Judges the case on a set of states, bit i for state i.
+impl Verdict {
+    /// Whether the state is in the set. A state beyond the case is not.
+    pub fn holds(self, state: usize) -> bool {
+        state < 16 && self.set >> state & 1 == 1
+    }
+}
+
+/// Judges the case on a set of states, bit i for state i: the root's function at the set.
 ///
-/// The work area may hold anything, and holds zero everywhere after an answer. A refusal leaves it
-/// unchanged. Refusals: 1 to 7, then 8 for a set beyond the case, then 9 for a work area of fewer
-/// words than [`work_area`] tells.
+/// The work area may hold anything, and holds zero everywhere after an answer.
+///
+/// Refusals: 1 to 7, then 8 for a set beyond the case, then 9 for a work area of fewer words than
+/// [`work_area`] tells.
 ///
 /// ```
 /// // Two states, a step of action 0 from 0 to 1; the rule μZ.τ or ⟨0⟩;Z: some steps lead there.
@@ -31,9 +39,10 @@ pub struct Verdict {
 /// let verdict = hoidrul::judge(&file, 0b10, &mut work)?;
 /// assert_eq!((verdict.set, verdict.rounds), (0b11, 2));
 /// assert!(work.iter().all(|&word| word == 0));
+/// assert!(verdict.holds(0) && verdict.holds(1) && !verdict.holds(2));
 ///
 /// let refusal = hoidrul::judge(&file, 0b100, &mut work).unwrap_err();
-/// assert_eq!((refusal.number, refusal.place), (8, 0));
+/// assert_eq!(refusal.reason, hoidrul::Reason::Beyond);
 /// # Ok::<(), hoidrul::Refusal>(())
 /// ```
 pub fn judge(file: &[u8], set: u16, work: &mut [u16]) -> Result<Verdict, Refusal> {
@@ -44,8 +53,20 @@ pub fn judge(file: &[u8], set: u16, work: &mut [u16]) -> Result<Verdict, Refusal
     })
 }
 
-/// How many words of work area are enough to judge the case: 2 × m × 2^n. Refusals: 1 to 7.
+/// How many words of work area are enough to judge the case: 2 × m × 2^n.
+///
+/// Refusals: 1 to 7.
+///
+/// ```
+/// // One state, no steps, the rule τ.
+/// let file = [12, 0, 1, 0, 13, 0, 0, 0, 13, 0, 4, 0, 0, 5, 0, 0, 0];
+/// assert_eq!(hoidrul::work_area(&file)?, 4);
+/// assert!(hoidrul::judge(&file, 0, &mut [0; 4]).is_ok());
+/// let refusal = hoidrul::judge(&file, 0, &mut [0; 3]).unwrap_err();
+/// assert_eq!(refusal.reason, hoidrul::Reason::Work);
+/// # Ok::<(), hoidrul::Refusal>(())
+/// ```
 pub fn work_area(file: &[u8]) -> Result<usize, Refusal> {
-    let counts = vet(file, 0)?;
+    let counts = vet(file, LABELS)?;
     Ok(2 * counts.nodes * (1 << counts.states))
 }
