@@ -4,43 +4,47 @@ use crate::tables::Tables;
 
 /// The root's function at the set, and its rounds. The area is zero afterwards.
 pub fn judge(plan: &Plan, set: usize, work: &mut impl Tables) -> (u16, u64) {
-    refresh(plan, plan.root, 0, ALWAYS, work);
-    let rounds = compute(plan, plan.root, ALWAYS, work);
+    refresh(plan, plan.root, 0, ALWAYS, 0, work);
+    let rounds = compute(plan, plan.root, ALWAYS, 0, work);
     let answer = work.word(plan.root * plan.size + set);
     work.clear();
     (answer, rounds)
 }
 
 /// Computes the nodes below k that depend only on what is in `active`, and not only on what is in
-/// `old`.
-fn refresh<T: Tables>(plan: &Plan, k: usize, old: u32, active: u32, work: &mut T) {
+/// `old`. `grown` is the kind of the binder whose table alone has moved since, 0 if they start anew.
+fn refresh<T: Tables>(plan: &Plan, k: usize, old: u32, active: u32, grown: u8, work: &mut T) {
     if k == 0 {
         return;
     }
     let j = k - 1;
-    refresh(plan, j, old, active, work);
+    refresh(plan, j, old, active, grown, work);
     let scope = plan.scopes[j];
     if scope | active == active && scope | old != old {
-        compute(plan, j, active, work);
+        compute(plan, j, active, grown, work);
     }
 }
 
 /// Computes node j from the lower ones: a binder's approximants until one equals the next. The
 /// answer is how many it took.
-fn compute<T: Tables>(plan: &Plan, j: usize, active: u32, work: &mut T) -> u64 {
+fn compute<T: Tables>(plan: &Plan, j: usize, active: u32, grown: u8, work: &mut T) -> u64 {
     let (kind, variable, body) = plan.node(j);
     if kind < 11 {
         fill(plan, j, work);
         return 0;
     }
-    let start = if kind == 11 { 0 } else { full(plan) };
-    work.constant(plan.size, j * plan.size, start);
+    if kind != grown {
+        let start = if kind == 11 { 0 } else { full(plan) };
+        work.constant(plan.size, j * plan.size, start);
+    }
     let mut rounds = 0;
+    let mut moved = 0;
     loop {
-        refresh(plan, j, active, active | 1 << variable, work);
+        refresh(plan, j, active, active | 1 << variable, moved, work);
         if !work.advance(plan.size, body * plan.size, j * plan.size) {
             return rounds;
         }
+        moved = kind;
         rounds += 1;
     }
 }

@@ -1,8 +1,9 @@
-//! Times in nanoseconds, each the best of several runs.
+//! Processor times in nanoseconds, each the best of several runs.
+use crate::clock::now;
 use std::hint::black_box;
-use std::time::{Duration, Instant};
+use std::time::Duration;
 
-const RUNS: usize = 40;
+const RUNS: usize = 100;
 /// A run is repeated until it takes about so long, so that the clock's grain does not matter.
 const LEAST: Duration = Duration::from_millis(4);
 
@@ -23,9 +24,18 @@ pub fn best<A, const N: usize>(mut tasks: [&mut dyn FnMut() -> A; N]) -> [f64; N
 }
 
 fn time<A>(task: &mut dyn FnMut() -> A, repeats: usize) -> f64 {
-    let start = Instant::now();
+    let start = now();
     for _ in 0..repeats {
         black_box(task());
     }
-    start.elapsed().as_nanos() as f64 / repeats as f64
+    (now() - start).as_nanos() as f64 / repeats as f64
+}
+
+/// The best time of one call within about a second; of a single call, if that takes longer.
+pub fn a_few(task: &mut dyn FnMut()) -> f64 {
+    const ENOUGH: f64 = 1e9;
+    let once = time(task, 1).max(1.0);
+    let repeats = (LEAST.as_nanos() as f64 / once).ceil() as usize;
+    let runs = (ENOUGH / (once * repeats as f64)) as usize;
+    (0..runs.min(RUNS)).fold(once, |best, _| best.min(time(task, repeats)))
 }

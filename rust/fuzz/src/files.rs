@@ -1,0 +1,70 @@
+//! The files that entries are called with: cases of every sort, damaged ones, and bytes.
+use crate::changes::change;
+use differential::damage::DAMAGES;
+use differential::drives::drives;
+use differential::formulas::{self, Bounds};
+use differential::rng::Rng;
+use differential::strange::STRANGE;
+use differential::{alike_tables, chops, generate};
+use plain::{write, Case};
+use std::ops::RangeInclusive;
+
+pub fn any(rng: &mut Rng) -> Vec<u8> {
+    match rng.below(10) {
+        0..=3 => write(&case(rng)),
+        4..=5 => {
+            let mut file = write(&case(rng));
+            change(rng, &mut file);
+            file
+        }
+        6..=7 => (rng.pick(&DAMAGES).1)(rng).file,
+        8 => rng.pick(&STRANGE)(rng),
+        _ => {
+            let length = rng.below(96);
+            rng.bytes(length)
+        }
+    }
+}
+
+/// A valid case.
+fn case(rng: &mut Rng) -> Case {
+    match rng.below(8) {
+        0..=1 => judged(rng, 1..=5, 3),
+        2 => judged(rng, 6..=8, 1),
+        3 => judged(rng, 9..=12, 0),
+        4 => generate::case(rng),
+        5..=6 => with_alike_states(rng),
+        _ => {
+            let mut drives = drives();
+            drives.swap_remove(rng.below(drives.len())).1
+        }
+    }
+}
+
+/// A case with a rule that the plain checker judges soon.
+fn judged(rng: &mut Rng, states: RangeInclusive<usize>, nesting: usize) -> Case {
+    let bounds = Bounds {
+        states: rng.within(states),
+        nesting,
+        depth: rng.within(1..=3),
+    };
+    formulas::case(rng, bounds)
+}
+
+/// A case in which merges and rewrites find something to do. Every fourth rule has 60 to 64 nodes,
+/// some of them unreached, so that a law finds no room.
+pub fn with_alike_states(rng: &mut Rng) -> Case {
+    let states = if rng.one_in(4) { 16 } else { 6 };
+    let states = rng.within(1..=states);
+    let case = alike_tables::case(rng, states);
+    match rng.below(4) {
+        0 => case,
+        1 => chops::put_into(rng, case, 16),
+        2 => chops::put_into(rng, case, 64),
+        _ => {
+            let mut full = chops::put_into(rng, case, 60);
+            full.nodes.resize(rng.within(60..=64), (0, 0, 0));
+            full
+        }
+    }
+}
