@@ -47,6 +47,7 @@ replies b (e ∷ l) = counted (reply (b .file) e) ∷ replies (turn b e) l
 abbrev pub allStates : Case → ℕ
 allStates c = setOf (length (c .labels)) (λ s. true)
 
+-- state s is in the answer; none is in a refusal
 abbrev pub inAnswer : Reply Verdict → ℕ → Bool
 inAnswer (answers v) s = has (v .set) s
 inAnswer (refuses k p) s = false
