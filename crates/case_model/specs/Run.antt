@@ -3,15 +3,18 @@
 use Prim.Native.Nat.{ℕ, _<_}
 use mathlib.Core.Bool.{Bool, true, false}
 use mathlib.Core.List.{List, [], _∷_, map}
+use mathlib.Core.Logic.{_↔_}
 use mathlib.Core.Path.{_≡_}
+use lib.Dec.{T}
 use lib.ListN.{length, take}
 use Rattle.flc.specs.Sets.{has, setOf}
-use Rattle.case_model.specs.Case.{Case, read}
+use Rattle.flc.specs.Bisimulation.{bisimulation}
+use Rattle.case_model.specs.Case.{Case, read, table}
 use Rattle.case_model.specs.Rows.{sound, refusals}
 use Rattle.case_model.specs.Replies.{Reply, answers, refuses}
 use Rattle.case_model.specs.Judging.{Verdict, row9, judging}
 use Rattle.case_model.specs.Merging.{counted, written}
-use Rattle.case_model.specs.Book.{Edit, Book, begun, reply, turn, book}
+use Rattle.case_model.specs.Book.{Edit, merges, Book, begun, reply, turn, book}
 
 -- a call: the edit that it asks for, given its output area's length; that area before and after it; and its reply
 pub record Call : Type 0 where
@@ -23,7 +26,7 @@ pub record Call : Type 0 where
 abbrev pub edit : Call → Edit
 edit c = c .asked (length (c .before))
 
--- what the called entry promises of its reply and of the output area, if it gets the file f
+-- what the called entry promises of its reply and of the output area, if it gets the file f: the contracts of merging and rewriting are this
 pub record Promised (f : List ℕ) (c : Call) : Type 0 where
   pub says : c .told ≡ counted (reply f (edit c))
   pub leaves : c .after ≡ written (reply f (edit c)) (c .before)
@@ -37,6 +40,17 @@ handed f (refuses k p) out = f
 pub data Calls : List ℕ → List Call → List ℕ → Type 0 where
   ended : {f : List ℕ} → Calls f [] f
   called : {f last : List ℕ} {c : Call} {l : List Call} → Promised f c → Calls (handed f (c .told) (c .after)) l last → Calls f (c ∷ l) last
+
+-- P holds of each call of the list, with the file that the call gets
+unfoldable pub Each : (List ℕ → Call → Type 0) → List ℕ → List Call → Type 0
+Each P f [] = Unit
+Each P f (c ∷ l) = P f c × Each P (handed f (c .told) (c .after)) l
+
+-- "Unlike is refusal 10 of two different states.": a merge of two different states of the case in f gets it exactly if no bisimulation of that case relates them
+abbrev pub UnlikeTold : List ℕ → Call → Type 0
+UnlikeTold f c =
+    (s t room : ℕ) → edit c ≡ merges s t room → s < length (read f .labels) → t < length (read f .labels) → (s ≡ t → ⊥)
+    → (c .told ≡ refuses 10 0) ↔ ((R : ℕ → ℕ → Bool) → T (bisimulation (table (read f)) R) → T (R s t) → ⊥)
 
 -- the replies of the plain book: "the reply is the new file's count of bytes"
 unfoldable pub replies : Book → List Edit → List (Reply ℕ)
@@ -56,11 +70,12 @@ inAnswer (refuses k p) s = false
 unfoldable pub holds : List ℕ → ℕ → ℕ → Bool
 holds f words s = inAnswer (judging f (allStates (read f)) words) s
 
--- demand 3, "one claim about the whole list": file and replies are the plain book's, the last file is accepted, and a state of the first case holds
--- exactly if the state standing for it holds in the last, with work area enough at both ends
+-- demand 3, "one claim about the whole list": file and replies are the plain book's, "unlike" is told where no bisimulation relates the two, the last file
+-- is accepted, and a state of the first case holds exactly if the state standing for it holds in the last, with work area enough at both ends
 pub record Kept (first : List ℕ) (l : List Call) (last : List ℕ) : Type 0 where
   pub file : book (begun first) (map edit l) .file ≡ last
   pub told : replies (begun first) (map edit l) ≡ map (λ (c : Call). c .told) l
+  pub unlike : Each UnlikeTold first l
   pub accepted : refusals last ≡ sound
   pub within : (s : ℕ) → s < length (read first .labels) → book (begun first) (map edit l) .standing s < length (read last .labels)
   pub verdicts : (words words′ : ℕ) → row9 (read first) words ≡ sound → row9 (read last) words′ ≡ sound
