@@ -6,7 +6,7 @@ use mathlib.Core.List.{List, [], _∷_}
 use mathlib.Core.Path.{_≡_, refl, sym, ap, _∙_, subst}
 use native.Mathlib.Decide.{decLt}
 use native.Mathlib.Omega.{arith}
-use borrow.Author.Tests.{lt-ltb, ltb-true, leb-true, eqb-false, not-true}
+use borrow.Author.Tests.{ltb-true, leb-true, eqb-false, not-true}
 use lib.Dec.{T, eqb, leb}
 use lib.ListN.{length}
 use Rattle.flc.specs.Sets.{has}
@@ -15,7 +15,7 @@ use Rattle.flc.proofs.Masks.{setOf-lt}
 use Rattle.case_model.specs.Case.{Triple, Case, read, write, table}
 use Rattle.case_model.specs.Rows.{Found, sound, refused, _orElse_, unless, row8, mostNodes, refusals}
 use Rattle.case_model.specs.Replies.{Reply, answers, refuses, replied}
-use Rattle.case_model.specs.Judging.{verdict, row9, judging}
+use Rattle.case_model.specs.Judging.{verdict, row9}
 use Rattle.case_model.specs.Merging.{row13, moved, merge, row10, merging}
 use Rattle.case_model.specs.Rewriting.{Change, nothing, swap, change, isThere, rewrite, rewriting}
 use Rattle.case_model.specs.Book.{Edit, merges, rewrites, Book, begun, reply, restood, entered, turn, book}
@@ -23,6 +23,7 @@ use Rattle.case_model.specs.Run.{allStates, holds}
 use Rattle.case_model.proofs.Tests.{and-l, and-r}
 use Rattle.case_model.proofs.Sections.{left-sound, right-sound, unless-sound}
 use Rattle.case_model.proofs.Valid.{Valid, accepted-valid}
+use Rattle.case_model.proofs.Judged.{judging-answers}
 use Rattle.case_model.proofs.Codec.{read-write}
 use Rattle.case_model.proofs.Accepting.{valid-accepted}
 use Rattle.case_model.proofs.Merged.{merge-valid, moved-in, merge-holds}
@@ -54,10 +55,11 @@ answered : {A : Type 0} (x : Found) (a v : A) → replied x a ≡ answers v → 
 answered sound a v e = (refl, cc)
 answered (refused k p) a v e = (cc, cc)
 
--- an accepted file with work area enough is answered on the set of all states
+-- judging says so of an accepted file with work area enough
 judged : (f : List ℕ) (words s : ℕ) → refusals f ≡ sound → row9 (read f) words ≡ sound → holds f words s ≡ satisfied (read f) s
-unfolding holds judging satisfied
-judged f words s ok enough = simp (ok, enough, lt-ltb _ _ (setOf-lt (length (read f .labels)) (λ s. true)))
+unfolding holds satisfied
+judged f words s ok enough =
+    rw (judging-answers f (allStates (read f)) words ok (setOf-lt (length (read f .labels)) (λ s. true)) enough)
 
 -- from a chain of rows that found nothing to each part of each test
 ruleset rows = (left-sound, right-sound, unless-sound, and-l, and-r)

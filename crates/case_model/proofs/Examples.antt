@@ -1,14 +1,14 @@
 -- The examples of the table of refusals, rows 1 to 8, and case F's bytes, computed from the definitions.
 -- By computation: a slip in a row, or two rows exchanged, makes one of these equations false.
 use Prim.Native.Nat.{ℕ}
-use mathlib.Core.List.{List, [], _∷_}
+use mathlib.Core.List.{List, [], _∷_, _++_}
 use mathlib.Core.Path.{_≡_, refl}
 use lib.ListN.{replicate, set}
 use Rattle.flc.specs.Sets.{both, either, forAll, forSome, first}
 use Rattle.flc.specs.Formula.{free}
 use Rattle.flc.specs.Nodes.{lower, formulaAt}
 use Rattle.case_model.specs.Bytes.{listOf, chained, pairsHold, section, packed}
-use Rattle.case_model.specs.Case.{Triple, write, kinds, nodeOf, nodeAt, rule}
+use Rattle.case_model.specs.Case.{Triple, flat, write, kinds, nodeOf, nodeAt, rule}
 use Rattle.case_model.specs.Rows.{lowest, rootClosed, refusals}
 use Rattle.case_model.specs.Replies.{answers, refuses, vetting, opening}
 
@@ -34,11 +34,16 @@ bytes : F ≡ 12 ∷ 0 ∷ 2 ∷ 0 ∷ 14 ∷ 0 ∷ 6 ∷ 0 ∷ 20 ∷ 0 ∷ 31 
 unfolding write packed
 bytes = refl
 
+-- case F's rule section, its labels, and steps of any bytes
+abbrev withSteps : List ℕ → List ℕ
+withSteps s = packed (labels ∷ s ∷ (flat nodes ++ (9 ∷ [])) ∷ [])
+
 rows :
     (vetting F 0 ≡ answers (record { states = 2; nodes = 10 }))
     × (vetting [] 0 ≡ refuses 1 0)
     × (vetting (caseOf (replicate 17 0) [] nodes 9) 0 ≡ refuses 2 0)
     × (vetting (caseOf labels ((0, 0, 2) ∷ (1, 1, 1) ∷ []) nodes 9) 0 ≡ refuses 3 0)
+    × (vetting (withSteps (0 ∷ 0 ∷ 1 ∷ 1 ∷ 1 ∷ 1 ∷ 0 ∷ [])) 0 ≡ refuses 3 0)
     × (vetting (caseOf labels ((1, 1, 1) ∷ (0, 0, 1) ∷ []) nodes 9) 0 ≡ refuses 3 1)
     × (vetting (caseOf labels ((0, 0, 1) ∷ (0, 0, 1) ∷ []) nodes 9) 0 ≡ refuses 3 1)
     × (vetting (caseOf labels steps nodes 10) 0 ≡ refuses 4 0)
@@ -47,7 +52,15 @@ rows :
     × (vetting (caseOf labels steps nodes 4) 0 ≡ refuses 7 0)
     × (vetting F 3 ≡ refuses 8 0)
 unfolding write packed vetting refusals pairsHold chained section listOf lowest first forAll forSome both either rootClosed rule formulaAt lower nodeAt nodeOf kinds free
-rows = (refl, refl, refl, refl, refl, refl, refl, refl, refl, refl, refl)
+rows = (refl, refl, refl, refl, refl, refl, refl, refl, refl, refl, refl, refl)
+
+-- row 1: each section begins where the one before ends, and the last ends with the file. One state, no steps, τ; then a byte left between two sections, and one after the last
+chains :
+    (vetting (12 ∷ 0 ∷ 1 ∷ 0 ∷ 13 ∷ 0 ∷ 0 ∷ 0 ∷ 13 ∷ 0 ∷ 4 ∷ 0 ∷ 0 ∷ 5 ∷ 0 ∷ 0 ∷ 0 ∷ []) 0 ≡ answers (record { states = 1; nodes = 1 }))
+    × (vetting (12 ∷ 0 ∷ 1 ∷ 0 ∷ 13 ∷ 0 ∷ 0 ∷ 0 ∷ 14 ∷ 0 ∷ 4 ∷ 0 ∷ 0 ∷ 0 ∷ 5 ∷ 0 ∷ 0 ∷ 0 ∷ []) 0 ≡ refuses 1 0)
+    × (vetting (12 ∷ 0 ∷ 1 ∷ 0 ∷ 13 ∷ 0 ∷ 0 ∷ 0 ∷ 13 ∷ 0 ∷ 4 ∷ 0 ∷ 0 ∷ 5 ∷ 0 ∷ 0 ∷ 0 ∷ 0 ∷ []) 0 ≡ refuses 1 0)
+unfolding vetting refusals pairsHold chained section listOf lowest first forAll forSome both either rootClosed rule formulaAt lower nodeAt nodeOf kinds free
+chains = (refl, refl, refl)
 
 -- where two rows are met, the lower number is told
 rising :

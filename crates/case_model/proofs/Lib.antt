@@ -9,6 +9,7 @@ pub mod Frees
 pub mod Valid
 pub mod Steps
 pub mod Nodes
+pub mod Judged
 pub mod Accepting
 pub mod Written
 pub mod Places

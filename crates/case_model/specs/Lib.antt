@@ -3,6 +3,7 @@ pub mod Case
 pub mod Rows
 pub mod Replies
 pub mod Judging
+pub mod Decision
 pub mod Merging
 pub mod Rewriting
 pub mod Book
