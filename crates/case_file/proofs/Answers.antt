@@ -34,6 +34,11 @@ pub accepts : (f : List ℕ) {v : Vetted} (x : Case) → v ≡ vetted.Case x →
 unfolding accepting
 accepts f x q e = replied-sound (refusals f) (counts (read f)) (countsOf x) (sym e ∙ ap told q)
 
+-- a refusal is the one that was found
+pub turned-back : (f : List ℕ) {v : Vetted} (x : Refusal) → v ≡ vetted.Refused x → told v ≡ accepting f → refusals f ≡ refused (number (x .reason)) (x .place)
+unfolding accepting
+turned-back f x q e = replied-refused (refusals f) (counts (read f)) _ _ (sym e ∙ ap told q)
+
 pub record Counted (x : Case) : Type 0 where
   pub states : x .states ≤ mostStates
   pub nodes : x .nodes ≤ mostNodes

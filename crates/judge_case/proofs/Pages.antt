@@ -1,44 +1,44 @@
--- What is printed of a file, by the replies of vetting and judging: vetting's refusals are judging's first ones.
-use Prim.Native.Nat.{ℕ}
-use mathlib.Core.List.{List}
-use mathlib.Core.Path.{_≡_, refl, sym, ap, ap₂, _∙_}
-use native.Mathlib.Omega.{arith}
+-- What is printed of a file, by judging's reply: refusals 1 to 7 do not look at the set, and an accepted case has at most 16 states.
+use Prim.Native.Nat.{ℕ, _^_, _≤_}
 use mathlib.Core.Bool.{true}
+use mathlib.Core.List.{List}
+use mathlib.Core.Path.{_≡_, refl, sym, ap, ap₂, _∙_, subst}
 use lib.ListN.{length}
 use Rattle.flc.specs.Sets.{setOf}
-use Rattle.case_file.specs.Told.{number, told, refusalOf, countsOf}
-use Rattle.case_file.specs.declared.reason.Refusal.{Refusal}
-use Rattle.case_file.specs.declared.vetting.Case.{Case}
-use Rattle.case_file.specs.declared.vetting.Vetted.{Vetted}
-use Rattle.case_file.specs.declared.vetting.Vetted.the-variants as vetted
 use Rattle.case_file.proofs.Answers.{replied-sound}
-use Rattle.case_model.specs.Bytes.{sections}
 use Rattle.case_model.specs.Case.{read}
-use Rattle.case_model.specs.Rows.{Found, sound, refused, _orElse_, row8, refusals}
-use Rattle.case_model.specs.Replies.{Reply, refuses, Counts, counts, replied, vetting}
-use Rattle.case_model.specs.Judging.{Verdict, judging}
+use Rattle.case_model.specs.Rows.{Found, sound, refused, mostStates, _orElse_, row8, refusals}
+use Rattle.case_model.specs.Replies.{Reply, answers, refuses}
+use Rattle.case_model.specs.Judging.{Verdict, verdict, row9, judging}
+use Rattle.case_model.specs.Run.{allStates}
+use Rattle.case_model.proofs.Sections.{left-sound}
+use Rattle.case_model.proofs.Valid.{accepted-valid}
 use Rattle.judge_case.specs.Printed.{printed, page}
 
--- where vetting refuses
-pub refused-page : (f : List ℕ) (words : ℕ) {v : Vetted} {x y : Refusal} → v ≡ vetted.Refused x → told v ≡ vetting f 0
-    → y ≡ refusalOf v → printed 0 (refuses (number (y .reason)) (y .place)) ≡ page f words
-unfolding vetting judging page printed
-refused-page f words {v} {x} q e h = rw (h ∙ ap refusalOf q) (go (refusals f) refl (sym (ap told q) ∙ e))
-  where
-    go : (r : Found) → refusals f ≡ r → refuses (number (x .reason)) (x .place) ≡ replied (r orElse row8 0 sections) (counts (read f))
-        → printed 0 (refuses (number (x .reason)) (x .place)) ≡ page f words
-    go sound h e = absurd (let z : _≡_ {A = ℕ} 0 1 = cc in omega arith)
-    go (refused k p) h e = rw h (
-        let a : number (x .reason) ≡ k = cc in
-        let b : x .place ≡ p = cc in
-        rw (a, b)
-        )
+-- only an accepted case is answered
+pub judged-few : (f : List ℕ) (x words : ℕ) {v : Verdict} → answers v ≡ judging f x words → length (read f .labels) ≤ mostStates
+unfolding judging
+judged-few f x words {v} e =
+    let (s, _) = replied-sound (refusals f orElse row8 x (2 ^ length (read f .labels)) orElse row9 (read f) words) (verdict (read f) x) v (sym e) in
+    accepted-valid f (left-sound _ _ (left-sound _ _ s)) .few
 
--- where it does not
-pub judged-page : (f : List ℕ) (words n x : ℕ) {v : Vetted} {c : Case} {r : Reply Verdict} → v ≡ vetted.Case c → told v ≡ vetting f 0
-    → n ≡ c .states → x ≡ setOf n (λ s. true) → r ≡ judging f x words → printed n r ≡ page f words
-unfolding vetting page
-judged-page f words n x {v} {c} {r} q e a b h =
-    let (s, same) = replied-sound (refusals f orElse row8 0 sections) (counts (read f)) (countsOf c) (sym e ∙ ap told q) in
-    let l : n ≡ length (read f .labels) = a ∙ sym (ap (λ (y : Counts). y .states) same) in
-    ap₂ printed l (h ∙ ap (λ y. judging f y words) (b ∙ ap (λ k. setOf k (λ s. true)) l))
+-- a set that is all states of a case, where the file is one
+all-judged : (f : List ℕ) (x words : ℕ) → (length (read f .labels) ≤ mostStates → x ≡ allStates (read f))
+    → judging f x words ≡ judging f (allStates (read f)) words
+unfolding judging
+all-judged f x words a = go (refusals f) refl
+  where
+    go : (r : Found) → refusals f ≡ r → judging f x words ≡ judging f (allStates (read f)) words
+    go sound h = ap (λ y. judging f y words) (a (accepted-valid f h .few))
+    go (refused k p) h = rw h
+
+pub judged-page : (f : List ℕ) (words n x : ℕ) {r : Reply Verdict} → n ≡ length (read f .labels)
+    → (n ≤ mostStates → x ≡ setOf n (λ s. true)) → r ≡ judging f x words → printed n r ≡ page f words
+unfolding page
+judged-page f words n x l a h =
+    ap₂ printed l (h ∙ all-judged f x words (subst (λ k. k ≤ mostStates → x ≡ setOf k (λ s. true)) l a))
+
+-- the page of a file that one of rows 1 to 7 refuses
+pub refused-page : (f : List ℕ) (words k p : ℕ) → refusals f ≡ refused k p → page f words ≡ printed 0 (refuses k p)
+unfolding page judging printed
+refused-page f words k p e = rw e

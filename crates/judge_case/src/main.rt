@@ -5,21 +5,26 @@ ghost use mathlib.Core.Path.{_≡_};
 ghost use Prim.Native.Nat.{_+_, _≤_, _<_};
 ghost use lib.ListN.{length};
 ghost use Rattle.flc.specs.Sets.{setOf, has};
+ghost use Rattle.case_model.specs.Rows.{mostStates};
 ghost use Rattle.case_model.specs.Replies.{Reply};
 ghost use Rattle.case_file.specs.Told.{number};
 ghost use Rattle.judge.specs.Told.{answer};
 ghost use Rattle.judge_case.specs.Printed.{yesText, noText, numeral, line, printed, page, Shows, Grew};
+use case_file::Case;
 use case_file::Refusal;
-use case_file::Vetted;
+use case_reader::state_count;
 use judge::Judged;
 use judge::Verdict;
 
-// The set of all of n states.
+// The set of all of n states; of more than 16, which no case has, any set.
 fn all_states(n: usize) -> u16
-    requires { ⌜ n ≤ 16 ⌝ }
-    ensures { λ r. ⌜ r ≡ setOf n (λ s. true) ⌝ }
+    ensures { λ r. ⌜ (n ≤ mostStates → r ≡ setOf n (λ s. true)) ⌝ }
 {
-    ((1usize << n) - 1) as u16
+    if n <= Case::STATES {
+        ((1usize << n) - 1) as u16
+    } else {
+        0
+    }
 }
 
 // Is state s in the set?
@@ -121,11 +126,7 @@ fn verdict_page(states: usize, verdict: Verdict) -> Page
 fn page_of(file: &[u8], work: &mut [u16]) -> Page
     ensures { λ r. ⌜ Shows r (page (now (file .entry)) (length (now (work .entry)))) ⌝ }
 {
-    let vetted = case_file::vet(file, 0);
-    let Vetted::Case(case) = vetted else {
-        return refusal_page(case_file::refusal(vetted));
-    };
-    let n = case.states();
+    let n = state_count(file);
     let judged = judge::judge(file, all_states(n), work);
     match judged {
         Judged::Verdict(verdict) => verdict_page(n, verdict),
@@ -134,8 +135,8 @@ fn page_of(file: &[u8], work: &mut [u16]) -> Page
 }
 
 fn main() {
-    // One byte more than the longest case: a longer input is refused as 1.
-    let mut buffer = [0u8; 6366];
+    // The byte past the longest case tells a longer input, which is refused as 1.
+    let mut buffer = [0u8; Case::LONGEST + 1];
     let mut work = [0u16; 32768];
     let length = io::read_full(0, &mut buffer);
     let page = page_of(&buffer[..length], &mut work);

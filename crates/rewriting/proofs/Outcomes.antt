@@ -1,4 +1,4 @@
--- What rewriting replies, by what vetting told and by the shape found; and when the plan is right.
+-- What rewriting replies, by the rows found and by the shape found; and when the plan is right.
 -- By the rows of the table of refusals, in rising number.
 use Prim.Native.Nat.{ℕ, _+_, _*_, _≤_, _<_}
 use mathlib.Core.Bool.{true, false}
@@ -10,14 +10,9 @@ use lib.ListN.{length}
 use Rattle.case_model.specs.Bytes.{byteAt, offset}
 use Rattle.case_model.specs.Case.{read, write}
 use Rattle.case_model.specs.Rows.{sound, refused, mostNodes, refusals}
-use Rattle.case_model.specs.Replies.{answers, refuses, Counts, accepting}
+use Rattle.case_model.specs.Replies.{answers, refuses}
 use Rattle.case_model.specs.Rewriting.{swap, change, isThere, rewrite, rewriting}
 use Rattle.case_model.proofs.Valid.{accepted-valid}
-use Rattle.case_file.specs.Told.{told}
-use Rattle.case_file.proofs.Answers.{accepts}
-use Rattle.case_file.specs.declared.vetting.Case.{Case}
-use Rattle.case_file.specs.declared.vetting.Vetted.{Vetted}
-use Rattle.case_file.specs.declared.vetting.Vetted.the-variants as vetted
 use Rattle.rewriting.specs.Shapes.{placed, named, Does}
 use Rattle.rewriting.specs.Plans.{renewed, Planned}
 use Rattle.rewriting.specs.declared.shapes.Shape.{Shape}
@@ -31,11 +26,8 @@ pub record Taken (f : List ℕ) (m : ℕ) : Type 0 where
   pub nodes : m ≡ length (read f .nodes)
   pub few : m ≤ mostNodes
 
-pub taken : (f : List ℕ) {v : Vetted} (x : Case) → v ≡ vetted.Case x → told v ≡ accepting f → {m : ℕ} → m ≡ x .nodes → Taken f m
-taken f x q e {m} n =
-    let (s, same) = accepts f x q e in
-    let k : m ≡ length (read f .nodes) = n ∙ sym (ap (λ (y : Counts). y .nodes) same) in
-    record { rows = s; nodes = k; few = omega (arith, accepted-valid f s .most) }
+pub taken : {f : List ℕ} {m : ℕ} → refusals f ≡ sound → m ≡ length (read f .nodes) → Taken f m
+taken {f} s n = record { rows = s; nodes = n; few = omega (arith, accepted-valid f s .most) }
 
 -- ---- rows 1 to 7, and 11
 pub rewriting-refused : (f : List ℕ) (law j room k p : ℕ) → refusals f ≡ refused k p → rewriting f law j room ≡ refuses k p

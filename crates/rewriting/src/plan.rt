@@ -22,21 +22,21 @@ pub(crate) struct Plan {
     pub(crate) nodes: usize,
 }
 
-// What a number that names node i becomes.
-fn name(shape: Shape, j: usize, i: usize) -> usize
-    requires { ⌜ (i < 256) × (shape .added ≤ 2) ⌝ }
-    ensures { λ r. ⌜ r ≡ named j shape i ⌝ }
+// What the number of a node that is named becomes.
+fn name(shape: Shape, j: usize, old: usize) -> usize
+    requires { ⌜ (old < 256) × (shape .added ≤ 2) ⌝ }
+    ensures { λ r. ⌜ r ≡ named j shape old ⌝ }
 {
     if shape.redirect {
-        if i == j {
+        if old == j {
             return shape.to;
         }
-        return i;
+        return old;
     }
-    if i < j {
-        return i;
+    if old < j {
+        return old;
     }
-    i + shape.added
+    old + shape.added
 }
 
 // A node with the nodes that it names renamed.

@@ -1,29 +1,26 @@
 // Rewriting: a law at a node, if its shape is there, and the new case file.
 ghost use mathlib.Core.Path.{_≡_};
-ghost use lib.ListN.{length};
-ghost use Rattle.case_model.specs.Merging.{counted, written};
-ghost use Rattle.case_model.specs.Rewriting.{rewriting};
+ghost use Rattle.case_model.specs.Rows.{sound, refusals};
+ghost use Rattle.case_model.specs.Book.{rewrites};
+ghost use Rattle.case_model.specs.Run.{Promised};
 ghost use Rattle.bisim.specs.Told.{told};
 use crate::plan::Plan;
 use crate::plan::write_new;
 use crate::shapes::shape_at;
 use bisim::Written;
 use bisim::refused;
-use bisim::turned_back;
 use case_file::Case;
 use case_file::Reason;
 use case_file::Vetted;
+use case_reader::node_count;
 use case_reader::section_offset;
 
-pub fn rewrite(file: &[u8], law: usize, node: usize, out: &mut [u8]) -> Written
-    ensures { λ r. ⌜ told r ≡ counted (rewriting (now (file .entry)) law node (length (now (out .entry)))) ⌝ }
-    ensures { λ r. ⌜ now (out .exit) ≡ written (rewriting (now (file .entry)) law node (length (now (out .entry)))) (now (out .entry)) ⌝ }
+// Rewrites an accepted file.
+fn rewrite_accepted(file: &[u8], law: usize, node: usize, out: &mut [u8]) -> Written
+    requires { ⌜ refusals (now file) ≡ sound ⌝ }
+    ensures { λ r. ⌜ Promised (now (file .entry)) (record { asked = rewrites law node; before = now (out .entry); after = now (out .exit); told = told r }) ⌝ }
 {
-    let vetted = Case::new(file);
-    let Vetted::Case(case) = vetted else {
-        return turned_back(vetted);
-    };
-    let m = case.nodes();
+    let m = node_count(file);
     if m <= node {
         return refused(Reason::Shape);
     }
@@ -48,4 +45,15 @@ pub fn rewrite(file: &[u8], law: usize, node: usize, out: &mut [u8]) -> Written
     };
     let size = write_new(file, plan, out);
     Written::Bytes(size)
+}
+
+// Rewrites node `node` by law `law`, and writes the new case.
+pub fn rewrite(file: &[u8], law: usize, node: usize, out: &mut [u8]) -> Written
+    ensures { λ r. ⌜ Promised (now (file .entry)) (record { asked = rewrites law node; before = now (out .entry); after = now (out .exit); told = told r }) ⌝ }
+{
+    let vetted = Case::new(file);
+    let Vetted::Refused(refusal) = vetted else {
+        return rewrite_accepted(file, law, node, out);
+    };
+    Written::Refused(refusal)
 }

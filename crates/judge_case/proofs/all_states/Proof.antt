@@ -1,28 +1,32 @@
 -- `judge_case::all_states` meets its contract: the shift loses no bit.
 use borrow.Author.Needs.{needs}
 use native.Mathlib.Omega.{arith}
-use Prim.Native.Nat.{_%_, _^_}
+use Prim.Native.Nat.{ℕ, _%_, _^_, _≤_}
 use mathlib.Core.Path.{_≡_}
 use native.Mathlib.Nat.{one-mul, mod-eq-of-lt}
 use lib.Pow.{pow-pos, pow-mono}
+use Rattle.case_model.specs.Rows.{mostStates}
 use Rattle.judge_case.proofs.States.{all-states}
 use Rattle.judge_case.proofs.all_states.Statement.{statement}
 use Rattle.judge_case.proofs.all_states.Tie as tie
 
-shifted : (c : tie.Start) → 2 ^ c .args .n % 2 ^ 64 ≡ 2 ^ c .args .n
-shifted c = mod-eq-of-lt (omega (arith, pow-mono {i = c .args .n} {j = 16} (c .pre)))
+shifted : (n : ℕ) → n ≤ mostStates → 2 ^ n % 2 ^ 64 ≡ 2 ^ n
+shifted n few = mod-eq-of-lt (omega (arith, pow-mono {i = n} {j = 16} few))
 
 shl-result : tie.Need-shl-result
 shl-result c = search needs
 
 sub-result : tie.Need-sub-result
-sub-result c = rw (one-mul, shifted c) (pow-pos (c .args .n))
+sub-result c = rw (one-mul, shifted _ (c .if1 .taken)) (pow-pos (c .before .args .n))
 
 cast-result : tie.Need-cast-result
-cast-result c = rw (one-mul, shifted c) (record { fits = omega (arith, pow-mono {i = c .args .n} {j = 16} (c .pre), pow-pos (c .args .n)) })
+cast-result c = rw (one-mul, shifted _ (c .if1 .taken)) (record { fits = omega (arith, pow-mono {i = c .before .args .n} {j = 16} (c .if1 .taken), pow-pos (c .before .args .n)) })
 
 returns : tie.Need-returns
-returns c = rw (one-mul, shifted c) (all-states (c .args .n))
+returns c = λ few. rw (one-mul, shifted _ few) (all-states (c .before .args .n))
+
+returns-2 : tie.Need-returns-2
+returns-2 c = λ few. absurd (omega arith)
 
 pub all-states-spec : {M : Type 1} → statement M
-all-states-spec = tie.close (tie.spec shl-result sub-result cast-result returns)
+all-states-spec = tie.close (tie.spec shl-result sub-result cast-result returns returns-2)

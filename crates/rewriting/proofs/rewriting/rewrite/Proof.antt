@@ -1,33 +1,10 @@
--- `rewriting::rewriting::rewrite` meets its contract: vetting's refusal, 11, 12 or 13, or the new file.
+-- `rewriting::rewriting::rewrite` meets its contract: vetting's refusal, or what rewriting an accepted file promises.
 use borrow.Author.Needs.{needs}
-use borrow.Author.Tests.{not-true, not-false}
-use Prim.Native.Nat.{_+_}
-use native.Mathlib.Omega.{arith}
 use lib.ListN.{length}
-use Rattle.bisim.proofs.Answering.{turned-back}
-use Rattle.rewriting.specs.Plans.{Planned}
-use Rattle.rewriting.proofs.Outcomes.{Taken, taken, rewriting-refused, rewriting-beyond, rewriting-nowhere, rewriting-many, planned, rewriting-short, rewriting-fits}
-use Rattle.rewriting.proofs.Renewed.{length-new-file}
+use Rattle.case_file.proofs.Answers.{accepts, turned-back}
+use Rattle.rewriting.proofs.Outcomes.{rewriting-refused}
 use Rattle.rewriting.proofs.rewriting.rewrite.Statement.{statement}
 use Rattle.rewriting.proofs.rewriting.rewrite.Tie as tie
-
--- an accepted file, once the answer is known to be a case
-at-nodes : (c : tie.After-nodes) → Taken (c .before .before .before .before .before .before .before .args .file .now) (c .nodes .result)
-at-nodes c =
-    let v = c .before .before .vetted .given in
-    taken (c .before .before .before .before .before .before .before .args .file .now) (v .0 .0) (v .1) (c .before .before .before .before .new .ensures) (c .nodes .ensures)
-
--- the plan, once the shape is there and the nodes are few enough
-abbrev at-plan : (c : tie.After-section-offset) → Planned (c .before .before .before .before .before .before .before .before .before .before .before .before .before .args .file .now) (record {
-  shape = c .before .before .before .before .shape-at .result;
-  j = c .before .before .before .before .before .before .before .before .before .before .before .before .before .args .node;
-  rule = c .section-offset .result;
-  nodes = c .before .before .before .before .before .before .nodes .result + c .before .before .before .before .shape-at .result .added;
-})
-at-plan c =
-    let a = c .before .before .before .before .before .before .before .before .before .before .before .before .before .args in
-    planned (a .file .now) (a .law) (a .node) _ (at-nodes (c .before .before .before .before .before .before)) (c .before .before .before .before .before .if1 .left) _ (c .before .before .before .before .shape-at .ensures) (not-false _ (c .before .before .if2 .left))
-    (λ i. omega (arith, c .before .before .before .before .before .before .before .before .before .before .before .before .shared-slice-known .given i)) (c .before .if3 .left) _ (c .section-offset .ensures .is)
 
 new-requires : tie.Need-new-requires
 new-requires c κs = search needs
@@ -38,92 +15,23 @@ enum-known-vetted c = search needs
 enum-told : tie.Need-enum-told
 enum-told c = search needs
 
-turned-back-requires : tie.Need-turned-back-requires
-turned-back-requires c κs = search needs
-
-returns : tie.Need-returns
-returns c =
-    let a = c .before .before .before .before .before .before .args in
+rewrite-accepted-requires : tie.Need-rewrite-accepted-requires
+rewrite-accepted-requires c κs =
     let v = c .before .enum-told .given in
-    let e = rewriting-refused (a .file .now) (a .law) (a .node) (length (a .out .now)) _ _ (turned-back (a .file .now) (v .0 .0) (v .1) (c .before .before .before .new .ensures)) in
-    (rw (e, c .turned-back .ensures, v .1), rw e)
-
-nodes-requires : tie.Need-nodes-requires
-nodes-requires c κs = search needs
-
-refused-requires : tie.Need-refused-requires
-refused-requires c κs = search needs
-
-returns-2 : tie.Need-returns-2
-returns-2 c =
-    let a = c .before .before .before .before .before .before .before .before .before .args in
-    let e = rewriting-beyond (a .file .now) (a .law) (a .node) _ (at-nodes (c .before .before)) (c .before .if1 .taken) (length (a .out .now)) in
-    (rw (e, c .refused .ensures), rw e)
-
-shape-at-requires : tie.Need-shape-at-requires
-shape-at-requires c κs =
-    let t = at-nodes (c .before) in
-    omega (arith, t .few)
-
-add-nodes : tie.Need-add-nodes
-add-nodes c =
-    let t = at-nodes (c .before .before .before) in
-    omega (arith, t .few, c .before .shape-at .ensures .few)
-
-refused-requires-2 : tie.Need-refused-requires-2
-refused-requires-2 c κs = search needs
-
-returns-3 : tie.Need-returns-3
-returns-3 c =
-    let a = c .before .before .before .before .before .before .before .before .before .before .before .before .args in
-    let e = rewriting-nowhere (a .file .now) (a .law) (a .node) _ (at-nodes (c .before .before .before .before .before)) (c .before .before .before .before .if1 .left) _ (c .before .before .before .shape-at .ensures) (not-true _ (c .before .if2 .taken)) (length (a .out .now)) in
-    (rw (e, c .refused2 .ensures), rw e)
-
-refused-requires-3 : tie.Need-refused-requires-3
-refused-requires-3 c κs = search needs
-
-returns-4 : tie.Need-returns-4
-returns-4 c =
-    let a = c .before .before .before .before .before .before .before .before .before .before .before .before .before .args in
-    let e = rewriting-many (a .file .now) (a .law) (a .node) _ (at-nodes (c .before .before .before .before .before .before)) (c .before .before .before .before .before .if1 .left) _ (c .before .before .before .before .shape-at .ensures) (not-false _ (c .before .before .if2 .left)) (c .before .if3 .taken) (length (a .out .now)) in
-    (rw (e, c .refused3 .ensures), rw e)
-
-section-offset-requires : tie.Need-section-offset-requires
-section-offset-requires c κs = search needs
-
-mul-if4 : tie.Need-mul-if4
-mul-if4 c = search needs
-
-add-if4 : tie.Need-add-if4
-add-if4 c = search needs
-
-add-if4-2 : tie.Need-add-if4-2
-add-if4-2 c = search needs
-
-refused-requires-4 : tie.Need-refused-requires-4
-refused-requires-4 c κs = search needs
-
-returns-5 : tie.Need-returns-5
-returns-5 c =
-    let a = c .before .before .before .before .before .before .before .before .before .before .before .before .before .before .before .args in
-    let e = rewriting-short (at-plan (c .before .before)) (length (a .out .now)) (c .before .if4 .taken) in
-    (rw (e, c .refused4 .ensures), rw e)
-
-write-new-requires : tie.Need-write-new-requires
-write-new-requires c κs =
-    let p = at-plan (c .before .before) in
-    (p, omega (arith, length-new-file p, c .before .if4 .left))
+    accepts _ (v .0 .0) (v .1) (c .before .before .before .new .ensures) .0
 
 same-length : tie.Need-same-length
 same-length c = search needs
 
-returns-6 : tie.Need-returns-6
-returns-6 c =
-    let a = c .before .before .before .before .before .before .before .before .before .before .before .before .before .before .before .before .before .before .args in
-    let p = at-plan (c .before .before .before .before .before) in
-    let e = rewriting-fits p (length (a .out .now)) (c .before .before .before .before .if4 .left) in
-    let w = c .before .before .write-new .ensures in
-    (rw (e, w .0), rw e (w .1))
+returns : tie.Need-returns
+returns c = search needs
+
+returns-2 : tie.Need-returns-2
+returns-2 c =
+    let a = c .before .before .before .before .before .before .args in
+    let v = c .before .vetted .given in
+    let e = rewriting-refused (a .file .now) (a .law) (a .node) (length (a .out .now)) _ _ (turned-back (a .file .now) (v .0 .0) (v .1) (c .before .before .before .new .ensures)) in
+    record { says = rw e; leaves = rw e }
 
 pub rewrite-spec : {M : Type 1} → statement M
 rewrite-spec =
@@ -132,23 +40,7 @@ rewrite-spec =
     new-requires
     enum-known-vetted
     enum-told
-    turned-back-requires
-    returns
-    nodes-requires
-    refused-requires
-    returns-2
-    shape-at-requires
-    add-nodes
-    refused-requires-2
-    returns-3
-    refused-requires-3
-    returns-4
-    section-offset-requires
-    mul-if4
-    add-if4
-    add-if4-2
-    refused-requires-4
-    returns-5
-    write-new-requires
+    rewrite-accepted-requires
     same-length
-    returns-6)
+    returns
+    returns-2)
