@@ -1,5 +1,2 @@
-pub mod Sets
 pub mod Filling
-pub mod Drawing
-pub mod Refining
 pub mod Answering

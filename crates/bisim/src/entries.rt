@@ -1,23 +1,25 @@
-// The entry that writes the classes, and the test of two states for those above.
+// The entry that writes the classes.
 ghost use mathlib.Core.Path.{_≡_};
+ghost use mathlib.Core.Bool.{cond};
 ghost use mathlib.Core.List.{_++_};
 ghost use Prim.Native.Nat.{_≤_, _<_};
+ghost use lib.Dec.{leb};
 ghost use lib.ListN.{length, drop};
 ghost use Rattle.flc.specs.Sets.{first};
 ghost use Rattle.case_model.specs.Bytes.{listOf};
-ghost use Rattle.case_model.specs.Rows.{mostStates};
+ghost use Rattle.case_model.specs.Rows.{mostStates, sound, refusals};
 ghost use Rattle.case_model.specs.Merging.{counted, written, classing};
-ghost use Rattle.bisim.specs.Relations.{related};
-ghost use Rattle.bisim.specs.Told.{told, areAlike};
-use crate::graph::draw;
-use crate::masks::member;
-use crate::refinement::alike_rows;
+ghost use Rattle.bisimilarity.specs.Relations.{related};
+ghost use Rattle.bisim.specs.Told.{told};
 use crate::written::Written;
 use crate::written::refused;
-use crate::written::turned_back;
+use bisimilarity::alike_rows;
+use bisimilarity::draw;
+use bisimilarity::member;
 use case_file::Case;
 use case_file::Reason;
 use case_file::Vetted;
+use case_reader::state_count;
 
 // The lowest state that row s has, s itself if none is lower.
 fn lowest(rows: [u16; 16], s: usize) -> usize
@@ -44,38 +46,36 @@ fn write(rows: [u16; 16], n: usize, out: &mut [u8])
     }
 }
 
+// How many bytes are written of a result of n bytes: all, or none where there is no room.
+fn served(n: usize, room: usize) -> usize
+    ensures { λ r. ⌜ r ≡ cond (leb n room) n 0 ⌝ }
+{
+    if n <= room { n } else { 0 }
+}
+
+// The classes of an accepted case.
+fn write_classes(file: &[u8], out: &mut [u8]) -> Written
+    requires { ⌜ refusals (now file) ≡ sound ⌝ }
+    ensures { λ r. ⌜ told r ≡ counted (classing (now (file .entry)) (length (now (out .entry)))) ⌝ }
+    ensures { λ r. ⌜ now (out .exit) ≡ written (classing (now (file .entry)) (length (now (out .entry)))) (now (out .entry)) ⌝ }
+{
+    let n = state_count(file);
+    let count = served(n, out.len());
+    write(alike_rows(draw(file)), count, out);
+    if count < n {
+        return refused(Reason::Room);
+    }
+    Written::Bytes(n)
+}
+
 // For each state the lowest state alike to it, one byte a state.
 pub fn classes(file: &[u8], out: &mut [u8]) -> Written
     ensures { λ r. ⌜ told r ≡ counted (classing (now (file .entry)) (length (now (out .entry)))) ⌝ }
     ensures { λ r. ⌜ now (out .exit) ≡ written (classing (now (file .entry)) (length (now (out .entry)))) (now (out .entry)) ⌝ }
 {
     let vetted = Case::new(file);
-    let Vetted::Case(case) = vetted else {
-        return turned_back(vetted);
+    let Vetted::Refused(refusal) = vetted else {
+        return write_classes(file, out);
     };
-    let n = case.states();
-    if out.len() < n {
-        return refused(Reason::Room);
-    }
-    write(alike_rows(draw(file)), n, out);
-    Written::Bytes(n)
-}
-
-// Is the file accepted, and are s and t states of it that are alike?
-pub fn are_alike(file: &[u8], s: usize, t: usize) -> bool
-    ensures { λ r. ⌜ r ≡ areAlike (now (file .entry)) s t ⌝ }
-{
-    let vetted = Case::new(file);
-    let Vetted::Case(case) = vetted else {
-        return false;
-    };
-    let n = case.states();
-    if n <= s {
-        return false;
-    }
-    if n <= t {
-        return false;
-    }
-    let rows = alike_rows(draw(file));
-    member(rows[s], t)
+    Written::Refused(refusal)
 }

@@ -9,7 +9,6 @@ use Rattle.case_model.specs.Rows.{Found, sound, refused, _orElse_, stepWrong, n
 use Rattle.case_model.specs.Replies.{Reply, answers, refuses, Counts, counts}
 use Rattle.case_file.specs.declared.reason.Reason.{Reason}
 use Rattle.case_file.specs.declared.reason.Reason.the-variants as reason
-use Rattle.case_file.specs.declared.reason.Refusal.{Refusal}
 use Rattle.case_file.specs.declared.tests.Search.{Search}
 use Rattle.case_file.specs.declared.tests.Search.the-variants as search
 use Rattle.case_file.specs.declared.vetting.Case.{Case}
@@ -45,11 +44,6 @@ countsOf c = record { states = c .states; nodes = c .nodes }
 abbrev pub told : Vetted → Reply Counts
 told (vetted.Case c) = answers (countsOf c)
 told (vetted.Refused r) = refuses (number (r .reason)) (r .place)
-
--- the refusal of an answer that is one; of a case, a refusal that nobody asks for
-abbrev pub refusalOf : Vetted → Refusal
-refusalOf (vetted.Refused r) = r
-refusalOf (vetted.Case c) = record { reason = reason.Pairs; place = 0 }
 
 -- the test of each search
 abbrev pub wrong : model.Case → Search → ℕ → Bool

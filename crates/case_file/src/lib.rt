@@ -10,4 +10,3 @@ pub use reason::Reason;
 pub use reason::Refusal;
 pub use vetting::Case;
 pub use vetting::Vetted;
-pub use vetting::refusal;

@@ -6,7 +6,7 @@ ghost use Rattle.case_model.specs.Bytes.{sections};
 ghost use Rattle.case_model.specs.Case.{read};
 ghost use Rattle.case_model.specs.Rows.{_orElse_, unless, rootClosed, mostNodes, row1, row2, row3, row4, row5, row6, row7, row8, refusals, sound};
 ghost use Rattle.case_model.specs.Replies.{accepting, replied};
-ghost use Rattle.case_file.specs.Told.{number, told, refusalOf, found, countsOf, Stage, Went, MayClose};
+ghost use Rattle.case_file.specs.Told.{number, told, found, countsOf, Stage, Went, MayClose};
 use crate::reason::Reason;
 use crate::reason::Refusal;
 use crate::tests::Search;
@@ -66,19 +66,6 @@ impl Case {
 pub enum Vetted {
     Case(Case),
     Refused(Refusal),
-}
-
-// The refusal of an answer that is one: for entries that go on only with a case.
-pub fn refusal(vetted: Vetted) -> Refusal
-    ensures { λ r. ⌜ r ≡ refusalOf vetted ⌝ }
-{
-    match vetted {
-        Vetted::Refused(refusal) => refusal,
-        Vetted::Case(_) => Refusal {
-            reason: Reason::Pairs,
-            place: 0,
-        },
-    }
 }
 
 pub(crate) enum Finding {

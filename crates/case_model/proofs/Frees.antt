@@ -3,24 +3,26 @@
 use Prim.Native.Nat.{ℕ, zero, suc, _-_, _^_, _≤_, _<_}
 use mathlib.Core.Bool.{Bool, false, not, cond, and-comm}
 use mathlib.Core.List.{List}
-use mathlib.Core.Path.{_≡_, refl, sym, ap, ap₂, _∙_}
+use mathlib.Core.Path.{_≡_, refl, sym, ap, ap₂, subst, _∙_}
 use native.Mathlib.Decide.{decLt, ℕ-discrete}
 use native.Mathlib.Nat.{zero-div}
 use native.Mathlib.Omega.{arith}
 use borrow.Author.Tests.{eq-eqb, ne-eqb, le-leb, lt-leb, lt-ltb, le-ltb}
 use lib.Bits.{bitOr, bitAnd, or-lt, and-lt}
 use lib.Dec.{T, eqb, leb, ltb, eqb→eq, T-not}
-use lib.ListN.{length, getD, set, replicate, length-set, length-replicate}
+use lib.ListN.{length, getD, set, replicate, length-set, length-replicate, List·getD-eq-default}
 use lib.Pow.{pow-lt}
 use lib.Seq.{getD-set-same, getD-set-other}
 use Rattle.flc.specs.Sets.{both, either, forAll, has, setOf}
 use Rattle.flc.specs.Formula.{Formula, Op, atom, bottom, var, op, fix, free}
 use Rattle.flc.specs.Nodes.{Node, tree, lower, formulaAt}
 use Rattle.flc.proofs.Tests.{bool-ext, both-left, both-right, forAll-use, forAll-mk}
-use Rattle.flc.proofs.Masks.{has-setOf, set-ext, has-or, has-and}
+use Rattle.flc.proofs.Masks.{has-setOf, setOf-lt, setOf-ext, setOf-has, set-ext, has-or, has-and}
 use Rattle.flc.proofs.Unfolding.{lower-at}
-use Rattle.case_model.specs.Case.{Triple, Case, at, nodeOf, nodeAt, rule}
+use Rattle.case_model.specs.Bytes.{listOf}
+use Rattle.case_model.specs.Case.{Triple, Case, at, kinds, nodeOf, nodeAt, rule}
 use Rattle.case_model.specs.Rows.{variables, rootClosed}
+use Rattle.case_model.proofs.Lists.{listOf-getD, listOf-ext}
 use Rattle.case_model.proofs.Tests.{is-false}
 use Rattle.case_model.proofs.NodeKinds.{Kind, constant, variable, pair, binder, beyond, kind}
 
@@ -127,7 +129,7 @@ zeros (suc n) zero = refl
 zeros (suc n) (suc i) = zeros n i
 
 module _ (c : Case) where
-  pub length-masks : (j : ℕ) → length (masks (c .nodes) j) ≡ 64
+  length-masks : (j : ℕ) → length (masks (c .nodes) j) ≡ 64
   length-masks zero = length-replicate {A = ℕ} 64 0
   length-masks (suc j) = length-set (masks (c .nodes) j) j _ ∙ length-masks j
 
@@ -141,21 +143,37 @@ module _ (c : Case) where
     | no n ↦ rw (ne-eqb i j n, getD-set-other (masks (c .nodes) j) j i (maskOf (masks (c .nodes) j) (at (c .nodes) j)) 0 n) (entry j (omega arith) i)
   ]
 
-  -- the entries of the nodes that are filled
-  pub masks-free : (j : ℕ) → j ≤ 64 → (i : ℕ) → i < j
-      → (getD (masks (c .nodes) j) i 0 < 65536)
-      × ((v : ℕ) → v < 16 → has (getD (masks (c .nodes) j) i 0) v ≡ free v (formulaAt (nodeAt c) i))
-  masks-free j h i l =
-      let m = entry j h i in
-      (m .small, λ v k. m .bits v k ∙ ap (free v) (lower-at (nodeAt c) j i l))
+  -- nothing is filled in from node j on
+  unfilled : (j i : ℕ) → j ≤ i → getD (masks (c .nodes) j) i 0 ≡ 0
+  unfilled zero i h = zeros 64 i
+  unfilled (suc j) i h = getD-set-other (masks (c .nodes) j) j i _ 0 (λ e. omega arith) ∙ unfilled j i (omega arith)
 
-  -- the root's entry is empty just if the root has no free variable
-  pub masks-closed : c .root < length (c .nodes) → length (c .nodes) ≤ 64
-      → eqb (getD (masks (c .nodes) (length (c .nodes))) (c .root) 0) 0 ≡ rootClosed c
-  unfolding rootClosed rule
-  masks-closed r h =
-      let x : ℕ = getD (masks (c .nodes) (length (c .nodes))) (c .root) 0 in
-      let m = masks-free (length (c .nodes)) h (c .root) r in
-      bool-ext (eqb x 0) (rootClosed c)
-      (λ e. forAll-mk variables _ (λ v l. rw (← m .1 v l, eqb→eq x 0 e, has-empty v) tt))
-      (λ t. rw (set-ext 16 x 0 (m .0) (omega arith) (λ v l. m .1 v l ∙ is-false _ (T-not (free v (rule c)) (forAll-use variables _ t v l)) ∙ sym (has-empty v))) tt)
+  -- a node past the end reads as tt
+  past : (i v : ℕ) → length (c .nodes) ≤ i → free v (formulaAt (nodeAt c) i) ≡ false
+  unfolding formulaAt nodeAt nodeOf kinds free
+  past i v h = rw (List·getD-eq-default (c .nodes) (0, 0, 0) h)
+
+  -- all nodes that have a place in the table are filled in: it has the free variables of each node as a set
+  pub masks-sets : (j : ℕ) → j ≤ 64 → ((i : ℕ) → j ≤ i → i < 64 → length (c .nodes) ≤ i)
+      → masks (c .nodes) j ≡ listOf 64 (λ i. setOf variables (λ v. free v (formulaAt (nodeAt c) i)))
+  masks-sets j h end =
+      sym (listOf-getD (masks (c .nodes) j) 0) ∙ ap (λ n. listOf n (λ i. getD (masks (c .nodes) j) i 0)) (length-masks j) ∙ listOf-ext 64 _ _ is
+    where
+      mask : (i : ℕ) → i < 64 → Mask (getD (masks (c .nodes) j) i 0) (formulaAt (nodeAt c) i)
+      mask i l = elim (decLt i j) [
+        | yes k ↦ subst (Mask (getD (masks (c .nodes) j) i 0)) (lower-at (nodeAt c) j i k) (entry j h i)
+        | no k ↦ rw (unfilled j i (omega arith)) (empty-mask (formulaAt (nodeAt c) i) (λ v _. past i v (end i (omega arith) l)))
+      ]
+
+      is : (i : ℕ) → i < 64 → getD (masks (c .nodes) j) i 0 ≡ setOf variables (λ v. free v (formulaAt (nodeAt c) i))
+      is i l = let m = mask i l in sym (setOf-has 16 _ (m .small)) ∙ setOf-ext 16 _ _ (m .bits)
+
+-- the root's set is empty just if the root has no free variable
+pub closed-empty : (c : Case) → eqb (setOf variables (λ v. free v (rule c))) 0 ≡ rootClosed c
+unfolding rootClosed
+closed-empty c =
+    let p : ℕ → Bool = λ v. free v (rule c) in
+    let x : ℕ = setOf variables p in
+    bool-ext (eqb x 0) (rootClosed c)
+    (λ e. forAll-mk variables _ (λ v l. rw (← has-setOf variables p v l, eqb→eq x 0 e, has-empty v) tt))
+    (λ t. rw (set-ext 16 x 0 (setOf-lt 16 p) (omega arith) (λ v l. has-setOf 16 p v l ∙ is-false _ (T-not (p v) (forAll-use variables _ t v l)) ∙ sym (has-empty v))) tt)

@@ -4,7 +4,7 @@ use Prim.Native.Nat.{ℕ, _^_, _<_}
 use mathlib.Core.Bool.{Bool, true, false}
 use mathlib.Core.List.{List}
 use mathlib.Core.Logic.{_↔_}
-use mathlib.Core.Path.{_≡_, refl, sym, ap, subst}
+use mathlib.Core.Path.{_≡_, refl, ap}
 use borrow.Author.Tests.{lt-ltb}
 use lib.Dec.{T}
 use lib.ListN.{length}
@@ -20,7 +20,7 @@ use Rattle.flc.proofs.Unfolding.{Names, lower-at, formulaAt-node}
 use Rattle.case_model.specs.Case.{Case, read, table, nodeAt, rule}
 use Rattle.case_model.specs.Rows.{sound, refusals}
 use Rattle.case_model.specs.Replies.{answers}
-use Rattle.case_model.specs.Judging.{Verdict, verdict, row9, judging}
+use Rattle.case_model.specs.Judging.{verdict, row9, judging}
 use Rattle.case_model.specs.Decision.{Monotone, InFixed, FirstStill, Decides, Decided}
 use Rattle.case_model.proofs.Valid.{Valid, accepted-valid}
 use Rattle.case_model.proofs.Nodes.{node-lower}

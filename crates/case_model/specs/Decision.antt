@@ -9,7 +9,7 @@ use Rattle.flc.specs.Sets.{has}
 use Rattle.flc.specs.Functions.{Fun, below, monotone, agree, approximant}
 use Rattle.flc.specs.Formula.{Table, Formula, op, put, mean, none}
 use Rattle.flc.specs.Nodes.{Node, leaf, two, bind, formulaAt}
-use Rattle.case_model.specs.Case.{Case, read, table, nodeAt}
+use Rattle.case_model.specs.Case.{read, table, nodeAt}
 use Rattle.case_model.specs.Replies.{answers}
 use Rattle.case_model.specs.Judging.{Verdict, judging}
 

@@ -1,4 +1,4 @@
--- What a reader finds at a position that it has compared with a count: an element, or the default past the end. And the step of a recursion over nodes.
+-- What a reader finds at a position that it has compared with a count: an element, or the default past the end. And the step of a recursion over nodes, and an entry of the table that it fills.
 use Prim.Native.Nat.{ℕ, suc, _-_, _≤_, _<_}
 use mathlib.Core.Bool.{cond}
 use mathlib.Core.List.{List}
@@ -7,8 +7,14 @@ use native.Mathlib.Omega.{arith}
 use borrow.Author.Tests.{lt-ltb}
 use lib.Dec.{ltb}
 use lib.ListN.{length, getD, List·getD-eq-default}
+use Rattle.flc.specs.Sets.{setOf}
+use Rattle.flc.specs.Formula.{free}
+use Rattle.flc.specs.Nodes.{formulaAt}
 use Rattle.case_model.specs.Bytes.{sections, listOf}
+use Rattle.case_model.specs.Case.{Case, nodeAt}
+use Rattle.case_model.specs.Rows.{mostNodes, variables}
 use Rattle.case_model.proofs.Lists.{getD-listOf, length-listOf}
+use Rattle.case_reader.specs.Read.{freeSets}
 
 pub past {ℓ} : {A : Type ℓ} (l : List A) (d : A) (i : ℕ) {n : ℕ} → n ≡ length l → n ≤ i → d ≡ getD l i d
 past l d i e h = sym (List·getD-eq-default l d {n = i} (subst (λ n. n ≤ i) e h))
@@ -23,3 +29,8 @@ there h x e = e ∙ rw (lt-ltb _ _ h)
 -- a number that is not 0, where a recursion takes its step
 pub peel : {A : Type 0} (g : ℕ → A) (i : ℕ) → (i ≡ 0 → ⊥) → g i ≡ g (suc (i - 1))
 peel g i h = let e : i ≡ suc (i - 1) = omega arith in ap g e
+
+-- entry j of the table of free variables
+pub free-set : (c : Case) (j : ℕ) → j < mostNodes → getD (freeSets c) j 0 ≡ setOf variables (λ v. free v (formulaAt (nodeAt c) j))
+unfolding freeSets
+free-set c j h = getD-listOf mostNodes _ 0 j h

@@ -1,11 +1,13 @@
--- What the readers of a file answer: a number or a triple of the case as data, with its range.
+-- What the readers of a file answer: a number or a triple of the case as data, with its range; and the nodes' free variables.
 use Prim.Native.Nat.{ℕ, _<_}
-use mathlib.Core.Bool.{cond}
+use mathlib.Core.List.{List}
 use mathlib.Core.Path.{_≡_}
-use lib.Dec.{leb}
-use lib.ListN.{length}
+use Rattle.flc.specs.Sets.{setOf}
+use Rattle.flc.specs.Formula.{free}
+use Rattle.flc.specs.Nodes.{formulaAt}
+use Rattle.case_model.specs.Bytes.{listOf}
 use Rattle.case_model.specs.Case as model
-use Rattle.case_model.specs.Rows.{mostNodes}
+use Rattle.case_model.specs.Rows.{mostNodes, variables}
 use Rattle.case_reader.specs.declared.parts.Triple.{Triple}
 
 -- r is x, which is below the bound
@@ -23,6 +25,6 @@ pub record IsTriple (t : Triple) (x : model.Triple) : Type 0 where
   pub second : t .1 < 256
   pub third : t .2 < 256
 
--- how many of a file's nodes have a place in a table of 64
-abbrev pub tabled : model.Case → ℕ
-tabled c = cond (leb (length (c .nodes)) mostNodes) (length (c .nodes)) mostNodes
+-- the free variables of each of the first 64 nodes, as a set: bit v for variable v; a node past the end has none
+unfoldable pub freeSets : model.Case → List ℕ
+freeSets c = listOf mostNodes (λ j. setOf variables (λ v. free v (formulaAt (model.nodeAt c) j)))

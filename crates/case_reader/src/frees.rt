@@ -5,7 +5,7 @@ ghost use lib.ListN.{getD};
 ghost use Rattle.case_model.specs.Case.{read};
 ghost use Rattle.case_model.specs.Rows.{mostNodes};
 ghost use Rattle.case_model.proofs.Frees.{single, without, maskOf, masks};
-ghost use Rattle.case_reader.specs.Read.{triple, tabled};
+ghost use Rattle.case_reader.specs.Read.{triple, freeSets};
 use crate::parts::Triple;
 use crate::parts::node;
 use crate::parts::node_count;
@@ -66,7 +66,7 @@ fn below(file: &[u8], j: usize) -> [u16; 64]
 
 // Those of each node of a file, of the first 64 if it has more.
 pub fn masks(file: &[u8]) -> [u16; 64]
-    ensures { λ r. ⌜ r ≡ masks (read (now (file .entry)) .nodes) (tabled (read (now (file .entry)))) ⌝ }
+    ensures { λ r. ⌜ r ≡ freeSets (read (now (file .entry))) ⌝ }
 {
     let m = node_count(file);
     if m <= 64 {

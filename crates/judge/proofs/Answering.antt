@@ -1,6 +1,6 @@
--- From the tables to the verdict, and from vetting's answer and the two rows to the reply.
+-- From the tables to the verdict, and from the rows to the reply.
 -- No variable is active at the root, so every environment serves; at the start nothing need be right.
-use Prim.Native.Nat.{ℕ, _+_, _*_, _^_, _≤_, _<_}
+use Prim.Native.Nat.{ℕ, _+_, _*_, _%_, _^_, _≤_, _<_}
 use mathlib.Core.List.{List}
 use mathlib.Core.Path.{_≡_, refl, sym, ap, _∙_, subst}
 use native.Mathlib.Nat.{not-suc-le-zero}
@@ -17,17 +17,12 @@ use Rattle.flc.specs.Nodes.{Node, leaf, two, bind, lower, formulaAt, roundsOf, 
 use Rattle.flc.proofs.Tests.{either-use}
 use Rattle.flc.proofs.Meanings.{none-good}
 use Rattle.flc.proofs.Unfolding.{Names, lower-at}
-use Rattle.case_file.specs.Told.{told, number, countsOf}
-use Rattle.case_file.specs.declared.reason.Refusal.{Refusal}
-use Rattle.case_file.specs.declared.vetting.Case as code
-use Rattle.case_file.specs.declared.vetting.Vetted.{Vetted}
-use Rattle.case_file.specs.declared.vetting.Vetted.the-variants as vetted
-use Rattle.case_file.proofs.Answers.{replied-sound}
 use Rattle.case_model.specs.Case.{Case, read, table, nodeAt, rule}
-use Rattle.case_model.specs.Rows.{Found, sound, refused, _orElse_, row8, refusals}
-use Rattle.case_model.specs.Replies.{answers, refuses, replied, Counts, counts, accepting}
-use Rattle.case_model.specs.Judging.{verdict, Verdict, row9, judging}
+use Rattle.case_model.specs.Rows.{sound, refused, refusals}
+use Rattle.case_model.specs.Replies.{answers, refuses}
+use Rattle.case_model.specs.Judging.{verdict, judging}
 use Rattle.case_model.proofs.Nodes.{node-lower}
+use Rattle.case_model.proofs.Judged.{judging-answers}
 use Rattle.case_model.proofs.Valid.{Valid, accepted-valid}
 use Rattle.judge.specs.Tables.{Filled}
 use Rattle.judge.specs.Plans.{Plan, Planned, Ready, Refreshed, Computable, Computed, Right, Matches, Asked, roundsIn}
@@ -35,6 +30,7 @@ use Rattle.judge.proofs.Modal.{has-none}
 use Rattle.judge.proofs.Rightness.{size-is}
 use Rattle.judge.proofs.Approximating.{has-one}
 use Rattle.judge.proofs.Surveying.{zeros}
+use Rattle.judge.proofs.Planning.{power}
 
 -- ---- the work area
 pub zeroed : {w v : List ℕ} (n : ℕ) → n ≡ length w → Filled w v 0 n (λ x. 0) → v ≡ replicate (length w) 0
@@ -107,15 +103,10 @@ asked {c} {p} {x} {words} P h l =
     }
 
 -- ---- the reply
--- vetting refused
-refused-first : (r s t : Found) (a : Counts) (b : Verdict) (k q : ℕ) → replied r a ≡ refuses k q → replied (r orElse s orElse t) b ≡ refuses k q
-refused-first sound s t a b k q e = absurd (let z : _≡_ {A = ℕ} 0 1 = cc in omega arith)
-refused-first (refused j o) s t a b k q e = let f : j ≡ k = cc in let g : o ≡ q = cc in cc
-
 module _ (f : List ℕ) (x words : ℕ) where
-  pub judging-refused : {v : Vetted} (r : Refusal) → told v ≡ accepting f → v ≡ vetted.Refused r → judging f x words ≡ refuses (number (r .reason)) (r .place)
-  unfolding accepting judging
-  judging-refused r e q = refused-first (refusals f) (row8 x (2 ^ length (read f .labels))) (row9 (read f) words) (counts (read f)) (verdict (read f) x) _ _ (sym e ∙ ap told q)
+  pub judging-refused : {k p : ℕ} → refusals f ≡ refused k p → judging f x words ≡ refuses k p
+  unfolding judging
+  judging-refused e = rw e
 
   -- the rows that are left
   module _ (s : refusals f ≡ sound) where
@@ -127,24 +118,17 @@ module _ (f : List ℕ) (x words : ℕ) where
     unfolding judging
     judging-short h l = rw (s, lt-ltb x (2 ^ length (read f .labels)) h, lt-leb (2 * length (read f .nodes) * 2 ^ length (read f .labels)) words l)
 
-    pub judging-answers : x < 2 ^ length (read f .labels) → 2 * length (read f .nodes) * 2 ^ length (read f .labels) ≤ words → judging f x words ≡ answers (verdict (read f) x)
-    unfolding judging
-    judging-answers h l = rw (s, lt-ltb x (2 ^ length (read f .labels)) h, le-leb (2 * length (read f .nodes) * 2 ^ length (read f .labels)) words l)
+    pub judging-verdict : x < 2 ^ length (read f .labels) → 2 * length (read f .nodes) * 2 ^ length (read f .labels) ≤ words → judging f x words ≡ answers (verdict (read f) x)
+    judging-verdict h l = judging-answers f x words s h (rw (le-leb (2 * length (read f .nodes) * 2 ^ length (read f .labels)) words l))
 
--- vetting answered
-pub record Accepted (f : List ℕ) (x : code.Case) : Type 0 where
-  pub found : refusals f ≡ sound
+-- the counts of an accepted case, and its number of sets: the shift loses nothing
+pub record Counted (f : List ℕ) (n m : ℕ) : Type 0 where
   pub valid : Valid (read f)
-  pub states : x .states ≡ length (read f .labels)
-  pub nodes : x .nodes ≡ length (read f .nodes)
+  pub states : n ≡ length (read f .labels)
+  pub nodes : m ≡ length (read f .nodes)
+  pub size : (1 * 2 ^ n) % 2 ^ 64 ≡ 2 ^ length (read f .labels)
 
-pub accepted : (f : List ℕ) {v : Vetted} (x : code.Case) → told v ≡ accepting f → v ≡ vetted.Case x → Accepted f x
-unfolding accepting
-accepted f x e q =
-    let (s, same) = replied-sound (refusals f) (counts (read f)) (countsOf x) (sym e ∙ ap told q) in
-    record {
-      found = s;
-      valid = accepted-valid f s;
-      states = sym (ap (λ (y : Counts). y .states) same);
-      nodes = sym (ap (λ (y : Counts). y .nodes) same);
-    }
+pub counted : {f : List ℕ} {n m : ℕ} → refusals f ≡ sound → n ≡ length (read f .labels) → m ≡ length (read f .nodes) → Counted f n m
+counted {f} {n} {m} s e q =
+    let valid = accepted-valid f s in
+    record { valid = valid; states = e; nodes = q; size = power n (omega (arith, valid .few)) ∙ ap (λ n. 2 ^ n) e }

@@ -11,16 +11,19 @@ use borrow.Author.Tests.{eqb-true, eq-eqb, ne-eqb}
 use lib.Dec.{T, eqb}
 use lib.ListN.{length, getD, set, replicate, length-set, length-replicate, getD-replicate}
 use lib.Seq.{getD-set-same, getD-set-other}
-use Rattle.flc.specs.Sets.{either, has}
+use Rattle.flc.specs.Sets.{either, has, setOf}
 use Rattle.flc.specs.Formula.{Op, free}
 use Rattle.flc.specs.Nodes.{Node, two, bind, tree, formulaAt}
 use Rattle.flc.proofs.Tests.{both-mk, either-left, either-right}
+use Rattle.flc.proofs.Masks.{has-setOf, setOf-lt}
 use Rattle.flc.proofs.Unfolding.{formulaAt-node}
-use Rattle.case_model.specs.Case.{Triple, Case, at, nodeOf, nodeAt}
+use Rattle.case_model.specs.Case.{Triple, Case, at, nodeOf, nodeAt, rule}
 use Rattle.case_model.proofs.NodeKinds.{Kind, constant, variable, pair, binder, beyond, kind}
-use Rattle.case_model.proofs.Frees.{masks, masks-free, masks-closed}
+use Rattle.case_model.proofs.Frees.{closed-empty}
 use Rattle.case_model.proofs.Valid.{Valid}
 use Rattle.case_model.proofs.Nodes.{node-lower}
+use Rattle.case_reader.specs.Read.{freeSets}
+use Rattle.case_reader.proofs.Readers.{free-set}
 use Rattle.judge.specs.Plans.{Plan, scope, Within, Scoped}
 use Rattle.judge.specs.Reaching.{unreached}
 use Rattle.judge.specs.Tables.{scopesFrom}
@@ -100,11 +103,14 @@ module _ {c : Case} (valid : Valid c) where
       most u (inr e) = omega arith
 
   abbrev frees : List ℕ
-  frees = masks (c .nodes) (length (c .nodes))
+  frees = freeSets c
+
+  entry : (j : ℕ) → j < length (c .nodes) → getD frees j 0 ≡ setOf 16 (λ v. free v (formulaAt (nodeAt c) j))
+  entry j h = free-set c j (omega (arith, valid .most))
 
   module _ (p : Plan) (q : (j : ℕ) → j < 64 → scope p j ≡ scopesFrom frees (unreached c) j) where
     mask : (j : ℕ) → j < length (c .nodes) → (getD frees j 0 < 65536) × ((v : ℕ) → v < 16 → has (getD frees j 0) v ≡ free v (formulaAt (nodeAt c) j))
-    mask j h = masks-free c (length (c .nodes)) (valid .most) j h
+    mask j h = rw (entry j h) (setOf-lt 16 _, has-setOf 16 _)
 
     mark : (j : ℕ) → j < length (c .nodes) → (getD (unreached c) j 0 ≡ 0) ⊎ (getD (unreached c) j 0 ≡ 131072)
     mark j h = U .marks begin-marks j (omega (arith, valid .most))
@@ -163,6 +169,7 @@ module _ {c : Case} (valid : Valid c) where
         (λ z. ap (λ i. getD (unreached c) i 0) (sym (P .second)) ∙ U .right j (low z) (omega (arith, P .from)) (P .to) z)
 
     pub scoped : Scoped c p
+    unfolding rule
     scoped = record {
       small = λ j l. subst (λ x. x < 2 ^ 18) (sym (is j l)) (bound (getD frees j 0) (getD (unreached c) j 0) (mask j l .0) (mark j l));
       mark = λ j l. into j 16 l (scope-low (getD frees j 0) (getD (unreached c) j 0) (mask j l .0) (mark j l) 16 (either-left (eqb 16 16) _ tt));
@@ -173,7 +180,7 @@ module _ {c : Case} (valid : Valid c) where
       names = two-in;
       body = bind-in;
       root =
-          let z = eqb-true (getD (masks (c .nodes) (length (c .nodes))) (c .root) 0) 0 (masks-closed c (valid .root) (valid .most) ∙ valid .closed) in
+          let z = entry (c .root) (valid .root) ∙ eqb-true _ 0 (closed-empty c ∙ valid .closed) in
           let y = U .keeps (c .root) (getD-set-same (replicate 64 131072) (c .root) 0 0 (rw (length-replicate {A = ℕ} 64 131072) (omega (arith, valid .root, valid .most)))) in
           omega (arith, is (c .root) (valid .root));
     }

@@ -6,17 +6,14 @@ use mathlib.Core.List.{List}
 use mathlib.Core.Path.{_≡_, sym, ap, ap₂, _∙_}
 use native.Mathlib.Nat.{one-mul, mod-eq-of-lt}
 use native.Mathlib.Omega.{arith}
-use borrow.Author.Tests.{le-leb}
 use lib.ListN.{length, getD}
 use lib.Pow.{pow-lt, pow-mono}
 use Rattle.flc.specs.Sets.{has, setOf}
 use Rattle.flc.specs.Nodes.{bind}
 use Rattle.flc.proofs.Masks.{setOf-ext, setOf-has}
 use Rattle.case_model.specs.Case.{Case, table, nodeAt}
-use Rattle.case_model.specs.Rows.{mostNodes}
-use Rattle.case_model.proofs.Frees.{masks}
 use Rattle.case_model.proofs.Valid.{Valid}
-use Rattle.case_reader.specs.Read.{tabled}
+use Rattle.case_reader.specs.Read.{freeSets}
 use Rattle.judge.specs.Tables.{Filled, scopesFrom}
 use Rattle.judge.specs.Plans.{decoded, home, Drawn, Planned, Labelled, Sourced, Housed}
 use Rattle.judge.specs.Reaching.{unreached}
@@ -26,10 +23,6 @@ use Rattle.judge.proofs.Depending.{binder-of, scoped}
 -- a shift by at most 16 loses nothing
 pub power : (n : ℕ) → n ≤ 16 → (1 * 2 ^ n) % 2 ^ 64 ≡ 2 ^ n
 power n h = rw one-mul (mod-eq-of-lt (pow-lt {i = n} {j = 64} (omega arith)))
-
--- an accepted case has no more nodes than a table
-pub all-tabled : {c : Case} → Valid c → tabled c ≡ length (c .nodes)
-all-tabled {c} valid = simp (le-leb (length (c .nodes)) mostNodes (valid .most))
 
 -- the parts, laid one after the other
 module _ {c : Case} (valid : Valid c) (F U H P S : List ℕ) {w₀ w₁ w₂ w₃ w₄ : List ℕ}
@@ -57,7 +50,7 @@ module _ {c : Case} (valid : Valid c) (F U H P S : List ℕ) {w₀ w₁ w₂ w�
       let l : v < 16 = omega (arith, X .first, body-low valid j h (X .from)) in
       D .under (67 + v) (omega arith) ∙ C .under (67 + v) (omega arith) ∙ B .inside v (omega (arith, G .long)) ∙ G .is j h e
 
-  pub planned : getD w₀ 1 0 ≡ 2 ^ getD w₀ 0 0 → getD w₀ 2 0 ≡ getD w₀ 0 0 * getD w₀ 1 0 → F ≡ masks (c .nodes) (length (c .nodes)) → U ≡ unreached c
+  pub planned : getD w₀ 1 0 ≡ 2 ^ getD w₀ 0 0 → getD w₀ 2 0 ≡ getD w₀ 0 0 * getD w₀ 1 0 → F ≡ freeSets c → U ≡ unreached c
       → Housed c (length (c .nodes)) H → Labelled c (getD w₀ 0 0) 8 P → Sourced (length (c .labels)) (c .steps) S → Planned c (decoded w₄)
   planned z m f u G L R = record {
     valid = valid;

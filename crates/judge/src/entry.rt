@@ -2,6 +2,7 @@
 ghost use mathlib.Core.Path.{_≡_};
 ghost use lib.ListN.{length};
 ghost use Rattle.case_model.specs.Case.{read};
+ghost use Rattle.case_model.specs.Rows.{refusals, sound};
 ghost use Rattle.case_model.specs.Judging.{judging, cleared, verdict};
 ghost use Rattle.judge.specs.Plans.{decoded, Asked};
 ghost use Rattle.judge.specs.Told.{told, answer};
@@ -15,8 +16,9 @@ use case_file::Case;
 use case_file::Reason;
 use case_file::Refusal;
 use case_file::Vetted;
-use case_file::refusal;
+use case_reader::node_count;
 use case_reader::root;
+use case_reader::state_count;
 
 pub struct Verdict {
     pub set: u16,
@@ -44,17 +46,14 @@ fn answer(work: &mut [u16], file: &[u8], plan: &Plan, set: u16) -> Verdict
     Verdict { set: value, rounds }
 }
 
-// The root's function at a set, and its rounds, or the first refusal.
-pub fn judge(file: &[u8], set: u16, work: &mut [u16]) -> Judged
+// Of an accepted case: rows 8 and 9, then the answer, after which the area is cleared.
+fn judge_accepted(file: &[u8], set: u16, work: &mut [u16]) -> Judged
+    requires { ⌜ refusals (now file) ≡ sound ⌝ }
     ensures { λ r. ⌜ told r ≡ judging (now (file .entry)) set (length (now (work .entry))) ⌝ }
     ensures { λ r. ⌜ now (work .exit) ≡ cleared (judging (now (file .entry)) set (length (now (work .entry)))) (now (work .entry)) ⌝ }
 {
-    let vetted = Case::new(file);
-    let Vetted::Case(case) = vetted else {
-        return Judged::Refused(refusal(vetted));
-    };
-    let n = case.states();
-    let m = case.nodes();
+    let n = state_count(file);
+    let m = node_count(file);
     let size = 1usize << n;
     let words = work.len();
     let x = set as usize;
@@ -74,4 +73,16 @@ pub fn judge(file: &[u8], set: u16, work: &mut [u16]) -> Judged
     let verdict = answer(&mut work[..m * size], file, &plan, set);
     constant(work, words, 0, 0);
     Judged::Verdict(verdict)
+}
+
+// The root's function at a set, and its rounds, or the first refusal.
+pub fn judge(file: &[u8], set: u16, work: &mut [u16]) -> Judged
+    ensures { λ r. ⌜ told r ≡ judging (now (file .entry)) set (length (now (work .entry))) ⌝ }
+    ensures { λ r. ⌜ now (work .exit) ≡ cleared (judging (now (file .entry)) set (length (now (work .entry)))) (now (work .entry)) ⌝ }
+{
+    let vetted = Case::new(file);
+    let Vetted::Refused(refusal) = vetted else {
+        return judge_accepted(file, set, work);
+    };
+    Judged::Refused(refusal)
 }

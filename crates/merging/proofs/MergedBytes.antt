@@ -1,13 +1,15 @@
 -- The sections of the merged case are parts of the file and the steps of the rows, and the lengths add up to that of the new file.
 -- Labels are a front and a back of the label section; the rule section is copied whole.
+use mathlib.Core.Bool.{true}
 use mathlib.Core.List.{List, [], _∷_, _++_}
 use mathlib.Core.Path.{_≡_, refl, sym, ap, ap₂, _∙_}
 use Prim.Native.Nat.{ℕ, zero, suc, _+_, _*_, _-_, _/_, _%_, _≤_, _<_}
 use native.Mathlib.Nat.{not-suc-le-zero, le-of-suc-le-suc}
 use native.Mathlib.Omega.{arith}
 use borrow.Author.Tests.{eqb-true}
-use lib.ListN.{length, take, drop, length-append}
-use Rattle.case_model.specs.Bytes.{listOf, byteAt, offset, size, section}
+use lib.ListN.{length, take, drop, length-append, length-drop}
+use lib.Seq.{length-take-le}
+use Rattle.case_model.specs.Bytes.{listOf, byteAt, offset, size, chained, pairsHold, section}
 use Rattle.case_model.specs.Case.{Case, read, flat, write}
 use Rattle.case_model.specs.Rows.{sound, refusals}
 use Rattle.case_model.specs.Merging.{movedSteps, inOrder, merge}
@@ -16,7 +18,6 @@ use Rattle.case_model.proofs.Tests.{and-l, and-r}
 use Rattle.case_model.proofs.Sections.{within, left-sound, right-sound, unless-sound}
 use Rattle.case_model.proofs.Valid.{Valid, accepted-pairs, accepted-valid}
 use Rattle.case_model.proofs.Codec.{length-flat, length-write}
-use Rattle.case_model.proofs.Merged.{merge-states}
 use Rattle.merging.specs.Laid.{Laid, part, head}
 use Rattle.merging.specs.Relation.{relation, Marks}
 use Rattle.merging.specs.Merged.{total, Named, Measured, mergedFile}
@@ -32,15 +33,15 @@ take-listOf zero n h l = refl
 take-listOf (suc r) zero h l = absurd (not-suc-le-zero l)
 take-listOf (suc r) (suc n) h l = ap (λ k. h zero ∷ k) (take-listOf r n (λ i. h (suc i)) (le-of-suc-le-suc l))
 
-drop-listOf : (r n : ℕ) (g h : ℕ → ℕ) → r ≤ n → ((i : ℕ) → h (r + i) ≡ g i) → drop r (listOf n h) ≡ listOf (n - r) g
+drop-listOf : (r n : ℕ) (g h : ℕ → ℕ) → ((i : ℕ) → h (r + i) ≡ g i) → drop r (listOf n h) ≡ listOf (n - r) g
 unfolding listOf
-drop-listOf zero n g h l e =
+drop-listOf zero n g h e =
     let z : n - 0 ≡ n = omega arith in
     rw z (listOf-ext n h g (λ i _. let q : 0 + i ≡ i = omega arith in rw q at (e i)))
-drop-listOf (suc r) zero g h l e = absurd (not-suc-le-zero l)
-drop-listOf (suc r) (suc n) g h l e =
+drop-listOf (suc r) zero g h e = let z : 0 - suc r ≡ 0 = omega arith in rw z
+drop-listOf (suc r) (suc n) g h e =
     let z : suc n - suc r ≡ n - r = omega arith in
-    rw z (drop-listOf r n g (λ i. h (suc i)) (le-of-suc-le-suc l) (λ i. let q : suc (r + i) ≡ suc r + i = omega arith in rw q (e i)))
+    rw z (drop-listOf r n g (λ i. h (suc i)) (λ i. let q : suc (r + i) ≡ suc r + i = omega arith in rw q (e i)))
 
 -- ---- an accepted file
 ruleset rows = (left-sound, right-sound, unless-sound, and-l, and-r)
@@ -49,6 +50,13 @@ rule-length : (f : List ℕ) → refusals f ≡ sound → size f 2 % 3 ≡ 1
 unfolding refusals
 rule-length f e = eqb-true _ _ (search rows depth 10)
 
+rule-after : (f : List ℕ) → pairsHold f ≡ true → offset f 0 + size f 0 ≤ offset f 2
+unfolding pairsHold chained
+rule-after f e =
+    let a : offset f 0 ≡ 12 = eqb-true _ _ (search (and-l, and-r)) in
+    let b : offset f 2 ≡ 12 + size f 0 + size f 1 = eqb-true _ _ (search (and-l, and-r)) in
+    omega arith
+
 labels-length : (f : List ℕ) → length (read f .labels) ≡ size f 0
 unfolding section
 labels-length f = length-listOf (size f 0) (λ i. byteAt f (offset f 0 + i))
@@ -56,14 +64,14 @@ labels-length f = length-listOf (size f 0) (λ i. byteAt f (offset f 0 + i))
 nodes-length : (f : List ℕ) → length (read f .nodes) ≡ size f 2 / 3
 nodes-length f = length-listOf (size f 2 / 3) _
 
-module _ (f : List ℕ) (r : ℕ) (inside : r < length (read f .labels)) where
-  pub labels-are : part f (offset f 0) r ++ part f (offset f 0 + r + 1) (length (read f .labels) - 1 - r) ≡ take r (read f .labels) ++ drop (suc r) (read f .labels)
+module _ (f : List ℕ) (r : ℕ) (inside : r ≤ length (read f .labels)) where
+  pub labels-are : part f (offset f 0) r ++ part f (offset f 0 + r + 1) (length (read f .labels) - suc r) ≡ take r (read f .labels) ++ drop (suc r) (read f .labels)
   unfolding part section
   labels-are =
       let n : length (read f .labels) ≡ size f 0 = labels-length f in
-      let m : length (read f .labels) - 1 - r ≡ size f 0 - suc r = omega arith in
+      let m : length (read f .labels) - suc r ≡ size f 0 - suc r = omega arith in
       sym (ap₂ _++_ (take-listOf r (size f 0) _ (omega arith))
-      (drop-listOf (suc r) (size f 0) (λ i. byteAt f (offset f 0 + r + 1 + i)) _ (omega arith) (λ i. ap (byteAt f) (place (offset f 0) i)) ∙ ap (λ k. listOf k (λ i. byteAt f (offset f 0 + r + 1 + i))) (sym m)))
+      (drop-listOf (suc r) (size f 0) (λ i. byteAt f (offset f 0 + r + 1 + i)) _ (λ i. ap (byteAt f) (place (offset f 0) i)) ∙ ap (λ k. listOf k (λ i. byteAt f (offset f 0 + r + 1 + i))) (sym m)))
     where
       place : (o i : ℕ) → o + (suc r + i) ≡ o + r + 1 + i
       place o i = omega arith
@@ -86,9 +94,9 @@ module _ {f : List ℕ} {p : Pair} {rows : List ℕ} {z : Sizes} (m : Measured f
   valid : Valid (read f)
   valid = accepted-valid f (m .named .accepted)
 
-  states : length (c .labels) ≡ length (read f .labels) - 1
-  unfolding c
-  states = merge-states valid (p .kept) (p .removed) (m .named .apart) (m .named .inside)
+  states : length (c .labels) ≡ p .removed + (length (read f .labels) - suc (p .removed))
+  unfolding c merge
+  states = simp (length-append, length-take-le (p .removed) (read f .labels) (m .named .removed), length-drop)
 
   steps : inOrder 2048 (relation rows) ≡ c .steps
   unfolding c merge
@@ -108,15 +116,15 @@ module _ {f : List ℕ} {p : Pair} {rows : List ℕ} {z : Sizes} (m : Measured f
       → Laid v3 v4 d e (flat (inOrder 2048 (relation rows))) → Laid v4 v5 e g (part f q (z .rule)) → Laid w v5 0 g (mergedFile f p)
   unfolding c write merge
   merged-laid n o q i j k h1 h2 h3 h4 h5 =
-      let len : n ≡ length (read f .labels) - 1 - p .removed = omega (arith, m .labels) in
+      let len : n ≡ length (read f .labels) - suc (p .removed) = omega (arith, m .labels) in
       laid-file (c .labels) (flat (c .steps)) (flat (c .nodes) ++ (c .root ∷ []))
       (m .labels ∙ sym states) (sym step-bytes) (m .rule ∙ sym (rule-size f (m .named .accepted)))
-      h1 (laid-as ((λ y. part f (j y) (p .removed) ++ part f (j y + p .removed + 1) (len y)) ∙ labels-are f (p .removed) (m .named .inside)) (laid-after h2 h3))
+      h1 (laid-as ((λ y. part f (j y) (p .removed) ++ part f (j y + p .removed + 1) (len y)) ∙ labels-are f (p .removed) (m .named .removed)) (laid-after h2 h3))
       (laid-as (ap flat steps) h4) (laid-as (ap₂ (part f) k (m .rule) ∙ rule-is f (m .named .accepted)) h5)
 
   -- each part lies within the file, and the sizes are small
   pub record Within : Type 0 where
-    pub first : offset f 0 + length (read f .labels) ≤ length f
+    pub first : offset f 0 + length (read f .labels) < length f
     pub last : offset f 2 + size f 2 ≤ length f
     pub few : length (read f .labels) ≤ 16
     pub steps-few : length (inOrder 2048 (relation rows)) ≤ 2048
@@ -126,7 +134,7 @@ module _ {f : List ℕ} {p : Pair} {rows : List ℕ} {z : Sizes} (m : Measured f
   fits =
       let ok = accepted-pairs f (m .named .accepted) in
       record {
-        first = omega (arith, within f ok 0 (omega arith), labels-length f);
+        first = omega (arith, rule-after f ok, within f ok 2 (omega arith), labels-length f, rule-length f (m .named .accepted));
         last = within f ok 2 (omega arith);
         few = valid .few;
         steps-few = order-few (relation rows) 2048;
@@ -138,9 +146,9 @@ pub named-valid : {f : List ℕ} {p : Pair} {n : ℕ} → Named f p n → Valid 
 named-valid {f} h = accepted-valid f (h .accepted)
 
 pub measured : {f : List ℕ} {p : Pair} {n : ℕ} {rows : List ℕ} (z : Sizes) → Named f p n → Marks (movedSteps (p .kept) (p .removed) (read f .steps)) rows
-    → z .labels ≡ n - 1 → z .steps ≡ 3 * length (inOrder 2048 (relation rows)) → z .rule ≡ size f 2 → Measured f p rows z
+    → z .labels ≡ p .removed + (n - suc (p .removed)) → z .steps ≡ 3 * length (inOrder 2048 (relation rows)) → z .rule ≡ size f 2 → Measured f p rows z
 measured {f} {p} z h m i j k = record {
-  named = record { accepted = h .accepted; states = refl; apart = h .apart; inside = omega (arith, h .states) };
+  named = record { accepted = h .accepted; states = refl; kept = omega (arith, h .states); removed = omega (arith, h .states) };
   marks = m;
   labels = omega (arith, h .states);
   steps = j;

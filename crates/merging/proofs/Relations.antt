@@ -20,7 +20,7 @@ use Rattle.case_model.specs.Merging.{moved, movedSteps, inOrder}
 use Rattle.case_model.proofs.Codec.{length-flat}
 use Rattle.case_model.proofs.Valid.{Valid}
 use Rattle.case_model.proofs.Steps.{InRange, step-in}
-use Rattle.bisim.proofs.Sets.{has-empty, has-single}
+use Rattle.bisimilarity.proofs.Sets.{has-empty, has-single}
 use Rattle.merging.specs.Laid.{Laid}
 use Rattle.merging.specs.Relation.{relation, marked, Marks, chosen}
 use Rattle.merging.proofs.Laying.{laid-after, flat-append}

@@ -1,24 +1,27 @@
 -- What merging replies, by what vetting told and by the states given; and the answer once the new file is laid.
 -- By the rows of the table of refusals, in rising number.
-use mathlib.Core.Bool.{Bool, true, false, not, _&&_, false≢true}
+use mathlib.Core.Bool.{Bool, true, false, not, _&&_}
 use mathlib.Core.List.{List}
-use mathlib.Core.Path.{_≡_, refl}
+use mathlib.Core.Path.{_≡_, refl, sym, _∙_}
 use Prim.Native.Nat.{ℕ, _≤_, _<_, min, max}
-use native.Mathlib.Decide.{ℕ-discrete}
 use native.Mathlib.Omega.{arith}
-use borrow.Author.Tests.{le-leb, lt-leb, ltb-true, eq-eqb}
+use borrow.Author.Tests.{le-leb, lt-leb, ltb-true}
 use lib.Dec.{eqb, ltb}
-use lib.ListN.{length}
+use lib.ListN.{length, getD}
+use Rattle.flc.specs.Sets.{has}
 use Rattle.flc.specs.Bisimulation.{alike}
 use Rattle.case_model.specs.Case.{read, table}
-use Rattle.case_model.specs.Rows.{Found, refused, _orElse_, unless, refusals}
+use Rattle.case_model.specs.Rows.{Found, sound, refused, _orElse_, unless, mostStates, refusals}
 use Rattle.case_model.specs.Replies.{answers, refuses}
 use Rattle.case_model.specs.Merging.{counted, written, merging}
 use Rattle.case_model.proofs.Tests.{and-l, and-r}
-use Rattle.bisim.specs.Told.{areAlike}
-use Rattle.bisim.proofs.Answering.{Accepted, alike-within}
+use Rattle.case_model.proofs.Valid.{accepted-valid}
+use Rattle.bisimilarity.specs.Graphs.{tableOf, Drawn}
+use Rattle.bisimilarity.specs.Relations.{related, Rows}
+use Rattle.bisimilarity.specs.declared.graph.Graph.{Graph}
+use Rattle.bisimilarity.proofs.Refining.{rows-alike}
 use Rattle.merging.specs.Laid.{Laid}
-use Rattle.merging.specs.Merged.{Named, mergedFile, fitting}
+use Rattle.merging.specs.Merged.{mergedFile, fitting}
 use Rattle.merging.specs.declared.rows.Pair.{Pair}
 use Rattle.merging.proofs.Laying.{laid-whole}
 
@@ -53,35 +56,25 @@ pub merging-refused : (f : List ℕ) (s t room k p : ℕ) → refusals f ≡ ref
 unfolding merging
 merging-refused f s t room k p e = rw e
 
--- two states that both are inside, and not one state
-pub apart : (f : List ℕ) (s t n : ℕ) (b : Bool) (p : Pair) → Accepted f n → (ltb s n && ltb t n) ≡ true → (not (eqb s t) && b) ≡ true → p .kept ≡ min s t → p .removed ≡ max s t → Named f p n
-apart f s t n b p a i e k r =
-    let l : s < n = ltb-true s n (search and-l) in
-    let j : t < n = ltb-true t n (search and-r) in
-    record {
-      accepted = a .rows;
-      states = a .states;
-      apart = elim (ℕ-discrete s t) [ yes q ↦ absurd (same (eqb s t) b (eq-eqb s t q) e) | no q ↦ omega arith ];
-      inside = omega arith;
-    }
-  where
-    same : (x y : Bool) → x ≡ true → (not x && y) ≡ true → ⊥
-    same true y q e = false≢true e
-    same false y q e = false≢true q
-
-module _ (f : List ℕ) (s t room n : ℕ) (a : Accepted f n) where
+module _ (f : List ℕ) (s t room n : ℕ) (ok : refusals f ≡ sound) (states : n ≡ length (read f .labels)) where
   pub merging-beyond : (ltb s n && ltb t n) ≡ false → merging f s t room ≡ refuses 8 0
   unfolding merging
-  merging-beyond e = rw (a .rows, ← a .states, both-out (ltb s n) (ltb t n) _ _ e)
+  merging-beyond e = rw (ok, ← states, both-out (ltb s n) (ltb t n) _ _ e)
 
   module _ (i : (ltb s n && ltb t n) ≡ true) where
-    alike-is : alike (table (read f)) s t ≡ areAlike f s t
-    alike-is = alike-within f s t n a (ltb-true s n (search and-l)) (ltb-true t n (search and-r))
+    pub inside : (s < n) × (t < n) × (n ≤ mostStates)
+    inside = (ltb-true s n (search and-l), ltb-true t n (search and-r), omega (arith, states, accepted-valid f ok .few))
 
-    pub merging-unlike : {b : Bool} → b ≡ areAlike f s t → (not (eqb s t) && b) ≡ false → merging f s t room ≡ refuses 10 0
-    unfolding merging
-    merging-unlike q e = rw (a .rows, ← a .states, and-l (ltb s n) (ltb t n) i, and-r (ltb s n) (ltb t n) i, alike-is, ← q, e)
+    -- what the row of s says of t
+    module _ {g : Graph} {rows : List ℕ} (d : Drawn (read f) g) (r : Rows (g .states) rows (alike (tableOf g))) {b : Bool} (m : b ≡ has (getD rows s 0) t) where
+      alike-is : alike (table (read f)) s t ≡ b
+      unfolding related
+      alike-is = let (p, q, few) = inside in sym (m ∙ rows-alike d r s t (omega arith) (omega arith))
 
-    pub merging-alike : {b : Bool} → b ≡ areAlike f s t → (not (eqb s t) && b) ≡ true → {p : Pair} → p .kept ≡ min s t → p .removed ≡ max s t → merging f s t room ≡ fitting f p room
-    unfolding merging fitting
-    merging-alike q e k r = rw (a .rows, ← a .states, and-l (ltb s n) (ltb t n) i, and-r (ltb s n) (ltb t n) i, alike-is, ← q, e, k, r)
+      pub merging-unlike : (not (eqb s t) && b) ≡ false → merging f s t room ≡ refuses 10 0
+      unfolding merging
+      merging-unlike e = rw (ok, ← states, and-l (ltb s n) (ltb t n) i, and-r (ltb s n) (ltb t n) i, alike-is, e)
+
+      pub merging-alike : (not (eqb s t) && b) ≡ true → {p : Pair} → p .kept ≡ min s t → p .removed ≡ max s t → merging f s t room ≡ fitting f p room
+      unfolding merging fitting
+      merging-alike e k h = rw (ok, ← states, and-l (ltb s n) (ltb t n) i, and-r (ltb s n) (ltb t n) i, alike-is, e, k, h)

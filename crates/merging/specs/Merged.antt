@@ -1,5 +1,5 @@
 -- What must hold before the merged case is written, and the reply once the states are known to be alike.
-use Prim.Native.Nat.{ℕ, _+_, _*_, _-_, _<_}
+use Prim.Native.Nat.{ℕ, suc, _+_, _*_, _-_, _≤_, _<_}
 use mathlib.Core.List.{List}
 use mathlib.Core.Path.{_≡_}
 use lib.ListN.{length}
@@ -15,18 +15,18 @@ use Rattle.merging.specs.declared.rows.Pair.{Pair}
 abbrev pub total : Sizes → ℕ
 total z = 12 + z .labels + z .steps + z .rule
 
--- an accepted file of n states, two of which are named
+-- an accepted file of n states, of which one is kept and one removed; n removes none
 pub record Named (f : List ℕ) (p : Pair) (n : ℕ) : Type 0 where
   pub accepted : refusals f ≡ sound
   pub states : n ≡ length (read f .labels)
-  pub apart : p .kept < p .removed
-  pub inside : p .removed < n
+  pub kept : p .kept < n
+  pub removed : p .removed ≤ n
 
 -- the merged case has the steps of the rows, and sections of such lengths
 pub record Measured (f : List ℕ) (p : Pair) (rows : List ℕ) (z : Sizes) : Type 0 where
   pub named : Named f p (length (read f .labels))
   pub marks : Marks (movedSteps (p .kept) (p .removed) (read f .steps)) rows
-  pub labels : z .labels ≡ length (read f .labels) - 1
+  pub labels : z .labels ≡ p .removed + (length (read f .labels) - suc (p .removed))
   pub steps : z .steps ≡ 3 * length (inOrder 2048 (relation rows))
   pub rule : z .rule ≡ size f 2
 

@@ -1,8 +1,11 @@
 // Merging: the lower of two alike states is kept and stands for both, the higher is removed.
 ghost use mathlib.Core.Path.{_≡_};
-ghost use Prim.Native.Nat.{_≤_};
+ghost use Prim.Native.Nat.{suc, _+_, _-_, _≤_};
 ghost use lib.ListN.{length};
-ghost use Rattle.case_model.specs.Merging.{counted, written, merging};
+ghost use Rattle.case_model.specs.Rows.{sound, refusals};
+ghost use Rattle.case_model.specs.Merging.{counted, written};
+ghost use Rattle.case_model.specs.Book.{merges};
+ghost use Rattle.case_model.specs.Run.{Promised};
 ghost use Rattle.bisim.specs.Told.{told};
 ghost use Rattle.merging.specs.Laid.{Laid};
 ghost use Rattle.merging.specs.Merged.{total, Named, Measured, mergedFile, fitting};
@@ -14,14 +17,16 @@ use crate::rows::count;
 use crate::rows::merged_rows;
 use crate::rows::put_steps;
 use bisim::Written;
-use bisim::are_alike;
 use bisim::refused;
-use bisim::turned_back;
+use bisimilarity::alike_rows;
+use bisimilarity::draw;
+use bisimilarity::member;
 use case_file::Case;
 use case_file::Reason;
 use case_file::Vetted;
 use case_reader::section_offset;
 use case_reader::section_size;
+use case_reader::state_count;
 
 // The head, the labels without the removed one, the steps and the rule.
 fn put_merged(file: &[u8], pair: Pair, rows: [u16; 128], sizes: Sizes, out: &mut [u8]) -> usize
@@ -39,14 +44,22 @@ fn put_merged(file: &[u8], pair: Pair, rows: [u16; 128], sizes: Sizes, out: &mut
     put_part(file, rule, sizes.rule, out, fourth)
 }
 
-// Merges two alike states, if there is room.
+// How many of n labels are left: those below and those above the removed one. Where that is n, all are.
+fn labels_left(n: usize, removed: usize) -> usize
+    requires { ⌜ removed ≤ n ⌝ }
+    ensures { λ r. ⌜ r ≡ removed + (n - suc removed) ⌝ }
+{
+    if removed < n { n - 1 } else { n }
+}
+
+// Merges a pair, if there is room.
 fn merge_pair(file: &[u8], pair: Pair, n: usize, out: &mut [u8]) -> Written
     requires { ⌜ Named (now file) pair n ⌝ }
     ensures { λ r. ⌜ told r ≡ counted (fitting (now (file .entry)) pair (length (now (out .entry)))) ⌝ }
     ensures { λ r. ⌜ now (out .exit) ≡ written (fitting (now (file .entry)) pair (length (now (out .entry)))) (now (out .entry)) ⌝ }
 {
     let rows = merged_rows(file, pair);
-    let labels = n - 1;
+    let labels = labels_left(n, pair.removed);
     let steps = 3 * count(rows);
     let rule = section_size(file, 2);
     let all = 12 + labels + steps + rule;
@@ -62,23 +75,31 @@ fn merge_pair(file: &[u8], pair: Pair, n: usize, out: &mut [u8]) -> Written
     Written::Bytes(all)
 }
 
-// Merges s and t, given in either order, and writes the new case.
-pub fn merge(file: &[u8], s: usize, t: usize, out: &mut [u8]) -> Written
-    ensures { λ r. ⌜ told r ≡ counted (merging (now (file .entry)) s t (length (now (out .entry)))) ⌝ }
-    ensures { λ r. ⌜ now (out .exit) ≡ written (merging (now (file .entry)) s t (length (now (out .entry)))) (now (out .entry)) ⌝ }
+// Merges s and t of an accepted case.
+fn merge_states(file: &[u8], s: usize, t: usize, out: &mut [u8]) -> Written
+    requires { ⌜ refusals (now file) ≡ sound ⌝ }
+    ensures { λ r. ⌜ Promised (now (file .entry)) (record { asked = merges s t; before = now (out .entry); after = now (out .exit); told = told r }) ⌝ }
 {
-    let vetted = Case::new(file);
-    let Vetted::Case(case) = vetted else {
-        return turned_back(vetted);
-    };
-    let n = case.states();
+    let n = state_count(file);
     let inside = (s < n) & (t < n);
     if !inside {
         return refused(Reason::Beyond);
     }
-    let mergeable = (s != t) & are_alike(file, s, t);
+    let rows = alike_rows(draw(file));
+    let mergeable = (s != t) & member(rows[s], t);
     if !mergeable {
         return refused(Reason::Unlike);
     }
     merge_pair(file, Pair::of(s, t), n, out)
+}
+
+// Merges s and t, given in either order, and writes the new case.
+pub fn merge(file: &[u8], s: usize, t: usize, out: &mut [u8]) -> Written
+    ensures { λ r. ⌜ Promised (now (file .entry)) (record { asked = merges s t; before = now (out .entry); after = now (out .exit); told = told r }) ⌝ }
+{
+    let vetted = Case::new(file);
+    let Vetted::Refused(refusal) = vetted else {
+        return merge_states(file, s, t, out);
+    };
+    Written::Refused(refusal)
 }

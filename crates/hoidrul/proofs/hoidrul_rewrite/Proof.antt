@@ -13,7 +13,7 @@ rewrite-requires c κs = search needs
 count-word-requires : tie.Need-count-word-requires
 count-word-requires c κs =
     let s = c .before .before .before .before .before in
-    subst (Fits Any) (sym (c .before .before .rewrite .ensures .0))
+    subst (Fits Any) (sym (c .before .before .rewrite .ensures .says))
     (rewriting-fits (s .before .args .file .now) (λ i. omega (arith, s .shared-slice-known .given i)) _ _ _)
 
 same-length : tie.Need-same-length
@@ -22,7 +22,7 @@ same-length c = search needs
 returns : tie.Need-returns
 returns c =
     let j = c .before .before .before .rewrite .ensures in
-    (c .count-word .ensures ∙ ap (packed itself) (j .0), j .1)
+    (c .count-word .ensures ∙ ap (packed itself) (j .says), j .leaves)
 
 pub hoidrul-rewrite-spec : {M : Type 1} → statement M
 hoidrul-rewrite-spec =

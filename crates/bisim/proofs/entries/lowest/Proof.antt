@@ -5,7 +5,7 @@ use Prim.Native.Nat.{_-_, _≤_}
 use native.Mathlib.Omega.{arith}
 use Rattle.flc.specs.Sets.{first, has}
 use Rattle.flc.proofs.Tests.{first-zero, first-hit, first-miss, first-end}
-use Rattle.bisim.specs.Relations.{related}
+use Rattle.bisimilarity.specs.Relations.{related}
 use Rattle.bisim.proofs.entries.lowest.Statement.{statement}
 use Rattle.bisim.proofs.entries.lowest.Tie as tie
 

@@ -8,7 +8,7 @@ use lib.ListN.{length, drop, length-set}
 use Rattle.flc.specs.Sets.{first}
 use Rattle.flc.proofs.Tests.{first-le}
 use Rattle.case_model.specs.Bytes.{listOf}
-use Rattle.bisim.specs.Relations.{related}
+use Rattle.bisimilarity.specs.Relations.{related}
 use Rattle.bisim.proofs.Filling.{put-none, put-more}
 use Rattle.bisim.proofs.entries.write.Statement.{statement}
 use Rattle.bisim.proofs.entries.write.Tie as tie

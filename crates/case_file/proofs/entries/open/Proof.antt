@@ -3,6 +3,7 @@ use borrow.Author.Needs.{needs}
 use native.Mathlib.Omega.{arith}
 use native.Mathlib.Nat.{add-sub-cancel-left, add-zero, add-comm}
 use mathlib.Core.Path.{refl, sym}
+use lib.Seq.{length-take-le}
 use Rattle.case_reader.proofs.Readers.{there}
 use Rattle.case_file.proofs.Opening.{Opens, opens, refuses}
 use Rattle.case_file.proofs.entries.open.Statement.{statement}
@@ -24,7 +25,7 @@ enum-told-2 : tie.Need-enum-told-2
 enum-told-2 c = search needs
 
 slice-aggregate-result : tie.Need-slice-aggregate-result
-slice-aggregate-result c = search needs
+slice-aggregate-result c = sym (length-take-le _ (c .before .before .before .before .before .args .file .now) (omega arith))
 
 returns : tie.Need-returns
 returns c =

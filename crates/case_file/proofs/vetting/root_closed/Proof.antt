@@ -1,8 +1,9 @@
 -- `case_file::vetting::root_closed` meets its contract: the root's entry of the table is empty exactly if the root has no free variable.
 use borrow.Author.Needs.{needs}
-use borrow.Author.Tests.{le-leb}
-use Rattle.case_model.specs.Case.{read}
-use Rattle.case_model.proofs.Frees.{masks-closed}
+use native.Mathlib.Omega.{arith}
+use Rattle.case_model.specs.Case.{read, rule}
+use Rattle.case_model.proofs.Frees.{closed-empty}
+use Rattle.case_reader.proofs.Readers.{free-set}
 use Rattle.case_file.proofs.vetting.root_closed.Statement.{statement}
 use Rattle.case_file.proofs.vetting.root_closed.Tie as tie
 
@@ -19,9 +20,11 @@ array-read-result : tie.Need-array-read-result
 array-read-result c = search needs
 
 returns : tie.Need-returns
+unfolding rule
 returns c =
     let s = c .before .before .before in
-    rw (c .before .masks .ensures, c .root .ensures .is, le-leb _ _ (s .pre .0)) (masks-closed (read (s .args .file .now)) (s .pre .1) (s .pre .0))
+    let f = read (s .args .file .now) in
+    rw (c .before .masks .ensures, c .root .ensures .is, free-set f (f .root) (omega (arith, s .pre))) (closed-empty f)
 
 pub root-closed-spec : {M : Type 1} → statement M
 root-closed-spec =

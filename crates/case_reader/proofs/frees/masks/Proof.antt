@@ -1,6 +1,10 @@
 -- `case_reader::frees::masks` meets its contract: as many nodes as the table has room for.
 use borrow.Author.Needs.{needs}
-use borrow.Author.Tests.{le-leb, lt-leb}
+use mathlib.Core.Path.{_∙_}
+use native.Mathlib.Omega.{arith}
+use Rattle.case_model.specs.Case.{read}
+use Rattle.case_model.proofs.Frees.{masks-sets}
+use Rattle.case_reader.specs.Read.{freeSets}
 use Rattle.case_reader.proofs.frees.masks.Statement.{statement}
 use Rattle.case_reader.proofs.frees.masks.Tie as tie
 
@@ -14,10 +18,15 @@ below-requires-2 : tie.Need-below-requires-2
 below-requires-2 c κs = search needs
 
 returns : tie.Need-returns
-returns c = rw (← c .before .before .node-count .ensures .is, le-leb _ _ (c .before .if1 .taken)) (c .below .ensures)
+unfolding freeSets
+returns c =
+    let at = c .before .before in
+    c .below .ensures ∙ masks-sets (read (at .before .before .args .file .now)) (at .node-count .result) (c .before .if1 .taken) (λ i h l. omega (arith, at .node-count .ensures .is))
 
 returns-2 : tie.Need-returns-2
-returns-2 c = rw (← c .before .before .node-count .ensures .is, lt-leb _ _ (c .before .if1 .left)) (c .below2 .ensures)
+unfolding freeSets
+returns-2 c =
+    c .below2 .ensures ∙ masks-sets (read (c .before .before .before .before .args .file .now)) 64 (omega arith) (λ i h l. omega arith)
 
 pub masks-spec : {M : Type 1} → statement M
 masks-spec =

@@ -1,5 +1,5 @@
 -- `judge::plan::plan` meets its contract: a shift by at most 16 loses nothing, and each part is what it says.
-use mathlib.Core.Path.{refl, sym, ap, _∙_, subst}
+use mathlib.Core.Path.{refl, sym, _∙_, subst}
 use Prim.Native.Nat.{_*_, _^_, _%_, _≤_}
 use native.Mathlib.Nat.{mul-le-mul-right}
 use native.Mathlib.Omega.{arith}
@@ -7,9 +7,8 @@ use lib.ListN.{getD}
 use lib.Pow.{pow-mono}
 use Rattle.judge.specs.Plans.{Housed}
 use Rattle.judge.proofs.Depending.{mark-most}
-use Rattle.judge.proofs.Planning.{all-tabled, planned, power}
+use Rattle.judge.proofs.Planning.{planned, power}
 use Rattle.case_model.specs.Case.{read}
-use Rattle.case_model.proofs.Frees.{masks}
 use borrow.Author.Needs.{needs}
 use Rattle.judge.proofs.plan.plan.Statement.{statement}
 use Rattle.judge.proofs.plan.plan.Tie as tie
@@ -75,7 +74,7 @@ returns c =
     let f = read (st .args .file .now) in
     planned valid (c .before .before .before .before .before .before .before .before .before .before .before .before .before .before .before .masks .result) (c .before .before .before .before .before .before .before .before .before .before .before .before .before .before .unreached .result) (c .before .before .before .before .before .before .before .before .before .before .before .before .before .homes .result) (c .before .before .before .before .before .before .before .before .before .before .before .before .props .result) (c .before .before .before .before .before .before .before .before .before .before .before .sources .result)
     (c .before .before .before .before .before .before .before .before .before .put-scopes .ensures) (c .before .before .before .before .before .before .put .ensures) (c .before .before .before .put2 .ensures) (c .put3 .ensures) n
-    (power (st .args .states) (omega (arith, valid .few))) refl (c .before .before .before .before .before .before .before .before .before .before .before .before .before .before .before .masks .ensures ∙ ap (masks (f .nodes)) (all-tabled valid)) (c .before .before .before .before .before .before .before .before .before .before .before .before .before .before .unreached .ensures)
+    (power (st .args .states) (omega (arith, valid .few))) refl (c .before .before .before .before .before .before .before .before .before .before .before .before .before .before .before .masks .ensures) (c .before .before .before .before .before .before .before .before .before .before .before .before .before .before .unreached .ensures)
     (subst (λ k. Housed f k (c .before .before .before .before .before .before .before .before .before .before .before .before .before .homes .result)) m (c .before .before .before .before .before .before .before .before .before .before .before .before .before .homes .ensures)) (c .before .before .before .before .before .before .before .before .before .before .before .before .props .ensures) (c .before .before .before .before .before .before .before .before .before .before .before .sources .ensures)
 
 pub plan-spec : {M : Type 1} → statement M

@@ -1,6 +1,6 @@
 -- `merging::merging::merge_pair` meets its contract: the lengths add up to that of the new file, so it refuses 13 or lays that file.
-use mathlib.Core.Path.{refl, ap}
-use Prim.Native.Nat.{_*_, _-_}
+use mathlib.Core.Path.{ap}
+use Prim.Native.Nat.{_*_}
 use native.Mathlib.Omega.{arith}
 use Rattle.merging.specs.Relation.{relation}
 use Rattle.merging.specs.Merged.{Measured}
@@ -12,55 +12,55 @@ use Rattle.merging.proofs.merging.merge_pair.Statement.{statement}
 use Rattle.merging.proofs.merging.merge_pair.Tie as tie
 
 -- the lengths of the sections, once they are known
-at-sizes : (c : tie.After-section-size) → Measured (c .before .before .before .before .before .args .file .now) (c .before .before .before .before .before .args .pair) (c .before .before .merged-rows .result)
-    (record { labels = c .before .before .before .before .before .args .n - 1; steps = 3 * c .before .count .result; rule = c .section-size .result })
+at-sizes : (c : tie.After-section-size) → Measured (c .before .before .before .before .before .before .args .file .now) (c .before .before .before .before .before .before .args .pair) (c .before .before .before .merged-rows .result)
+    (record { labels = c .before .before .labels-left .result; steps = 3 * c .before .count .result; rule = c .section-size .result })
 at-sizes c =
-    measured _ (c .before .before .before .before .before .pre) (c .before .before .merged-rows .ensures) refl (ap (λ k. 3 * k) (c .before .count .ensures)) (c .section-size .ensures .is)
+    measured _ (c .before .before .before .before .before .before .pre) (c .before .before .before .merged-rows .ensures) (c .before .before .labels-left .ensures) (ap (λ k. 3 * k) (c .before .count .ensures)) (c .section-size .ensures .is)
 
 merged-rows-requires : tie.Need-merged-rows-requires
 merged-rows-requires c κs =
     let v = named-valid (c .before .before .pre) in
     (v, omega (arith, v .few, c .before .before .pre))
 
-sub-labels : tie.Need-sub-labels
-sub-labels c = search needs
+labels-left-requires : tie.Need-labels-left-requires
+labels-left-requires c κs = search needs
 
 count-requires : tie.Need-count-requires
 count-requires c κs = search needs
 
 mul-steps : tie.Need-mul-steps
-mul-steps c = omega (arith, order-few (relation (c .before .merged-rows .result)) 2048)
+mul-steps c = omega (arith, order-few (relation (c .before .before .merged-rows .result)) 2048)
 
 section-size-requires : tie.Need-section-size-requires
 section-size-requires c κs = search needs
 
 add-all : tie.Need-add-all
-add-all c = let v = named-valid (c .before .before .before .before .before .pre) in omega (arith, v .few)
+add-all c = let v = named-valid (c .before .before .before .before .before .before .pre) in omega (arith, v .few)
 
 add-all-2 : tie.Need-add-all-2
-add-all-2 c = let v = named-valid (c .before .before .before .before .before .pre) in omega (arith, v .few, order-few (relation (c .before .before .merged-rows .result)) 2048)
+add-all-2 c = let v = named-valid (c .before .before .before .before .before .before .pre) in omega (arith, v .few, order-few (relation (c .before .before .before .merged-rows .result)) 2048)
 
 add-all-3 : tie.Need-add-all-3
-add-all-3 c = let v = named-valid (c .before .before .before .before .before .pre) in omega (arith, v .few, order-few (relation (c .before .before .merged-rows .result)) 2048)
+add-all-3 c = let v = named-valid (c .before .before .before .before .before .before .pre) in omega (arith, v .few, order-few (relation (c .before .before .before .merged-rows .result)) 2048)
 
 refused-requires : tie.Need-refused-requires
 refused-requires c κs = search needs
 
 returns : tie.Need-returns
 returns c =
-    let a = c .before .before .before .before .before .before .before .args in
+    let a = c .before .before .before .before .before .before .before .before .args in
     let e = short (a .file .now) (a .out .now) (a .pair) _ (total-is (at-sizes (c .before .before))) (c .before .if1 .taken) in
     (rw e (c .refused .ensures), rw e)
 
 put-merged-requires : tie.Need-put-merged-requires
-put-merged-requires c κs = (at-sizes (c .before .before), c .before .if1 .left)
+put-merged-requires c κs = (at-sizes (c .before .before), omega arith)
 
 same-length : tie.Need-same-length
 same-length c = search needs
 
 returns-2 : tie.Need-returns-2
 returns-2 c =
-    let a = c .before .before .before .before .before .before .before .before .before .before .args in
+    let a = c .before .before .before .before .before .before .before .before .before .before .before .args in
     let e = answered (a .file .now) (a .out .now) (a .pair) _ (total-is (at-sizes (c .before .before .before .before .before))) _ (c .before .before .before .before .if1 .left) (c .before .before .put-merged .ensures) in
     (e .count, e .area)
 
@@ -69,7 +69,7 @@ merge-pair-spec =
     tie.close
     (tie.spec
     merged-rows-requires
-    sub-labels
+    labels-left-requires
     count-requires
     mul-steps
     section-size-requires

@@ -1,0 +1,4 @@
+pub mod Sets
+pub mod Filling
+pub mod Drawing
+pub mod Refining

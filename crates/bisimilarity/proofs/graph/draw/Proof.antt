@@ -1,0 +1,20 @@
+-- `bisimilarity::graph::draw` meets its contract: the three parts are those of the case.
+use borrow.Author.Needs.{needs}
+use Rattle.bisimilarity.proofs.Drawing.{drawn}
+use Rattle.bisimilarity.proofs.graph.draw.Statement.{statement}
+use Rattle.bisimilarity.proofs.graph.draw.Tie as tie
+
+state-count-requires : tie.Need-state-count-requires
+state-count-requires c κs = search needs
+
+labels-requires : tie.Need-labels-requires
+labels-requires c κs = search needs
+
+successors-requires : tie.Need-successors-requires
+successors-requires c κs = search needs
+
+returns : tie.Need-returns
+returns c = drawn (c .before .before .before .before .pre) _ (c .before .before .state-count .ensures .is) (c .before .labels .ensures) (c .successors .ensures)
+
+pub draw-spec : {M : Type 1} → statement M
+draw-spec = tie.close (tie.spec state-count-requires labels-requires successors-requires returns)

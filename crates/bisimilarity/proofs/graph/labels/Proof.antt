@@ -1,0 +1,55 @@
+-- `bisimilarity::graph::labels` meets its contract. The loop's invariant: the entries below s are the labels.
+use borrow.Author.Needs.{needs}
+use mathlib.Core.Path.{refl}
+use Prim.Native.Nat.{_-_, _≤_}
+use native.Mathlib.Omega.{arith}
+use lib.ListN.{getD}
+use Rattle.case_model.specs.Case.{read}
+use Rattle.bisimilarity.proofs.Filling.{Filled, fill-none, fill-more, fill-list}
+use Rattle.bisimilarity.proofs.graph.labels.Statement.{statement}
+use Rattle.bisimilarity.proofs.graph.labels.Tie as tie
+
+abbrev Inv-loop : tie.InvT-loop
+Inv-loop file table₀ s₀ table s = (s ≤ 16) × Filled 16 s (λ u. getD (read file .labels) u 0) table
+
+abbrev μ-loop : tie.MeasureT-loop
+μ-loop file table₀ s₀ table s = 16 - s
+
+loop-holds : tie.Need-loop-holds Inv-loop μ-loop
+loop-holds c = (omega arith, fill-none _ _ refl)
+
+label-requires : tie.Need-label-requires Inv-loop μ-loop
+label-requires c κs = search needs
+
+mul-table : tie.Need-mul-table Inv-loop μ-loop
+mul-table c = search needs
+
+array-write-table : tie.Need-array-write-table Inv-loop μ-loop
+array-write-table c = search needs
+
+add-s : tie.Need-add-s Inv-loop μ-loop
+add-s c = search needs
+
+loop-less : tie.Need-loop-less Inv-loop μ-loop
+loop-less c = omega arith
+
+loop-again : tie.Need-loop-again Inv-loop μ-loop
+loop-again c = (omega arith, fill-more (c .before .before .loop .inv .1) (c .before .loop-test .taken) (c .label .ensures .is))
+
+returns : tie.Need-returns Inv-loop μ-loop
+returns c = fill-list (read (c .before .before .before .args .file .now) .labels) (c .before .loop .inv .1) (c .loop-test .left) (c .before .before .before .pre .few)
+
+pub labels-spec : {M : Type 1} → statement M
+labels-spec =
+    tie.close
+    (tie.spec
+    Inv-loop
+    μ-loop
+    loop-holds
+    label-requires
+    mul-table
+    array-write-table
+    add-s
+    loop-less
+    loop-again
+    returns)

@@ -1,0 +1,72 @@
+-- `bisimilarity::refinement::met_by` meets its contract. The loop's invariant: the test of the states below u; as masks it is that of the table.
+use borrow.Author.Needs.{needs}
+use mathlib.Core.Bool.{not}
+use mathlib.Core.Path.{_≡_, refl, _∙_}
+use Prim.Native.Nat.{_-_, _≤_}
+use native.Mathlib.Omega.{arith}
+use lib.Bits.{bitAnd}
+use lib.Dec.{eqb}
+use lib.ListN.{getD}
+use Rattle.flc.specs.Sets.{implies, forAll, has}
+use Rattle.bisimilarity.proofs.Sets.{all-more}
+use Rattle.bisimilarity.proofs.Refining.{met-masks}
+use Rattle.bisimilarity.proofs.refinement.met_by.Statement.{statement}
+use Rattle.bisimilarity.proofs.refinement.met_by.Tie as tie
+
+abbrev Inv-loop : tie.InvT-loop
+Inv-loop s t a rows n from to all₀ u₀ all u = (u ≤ n) × (all ≡ forAll u (λ v. implies (has from v) (not (eqb (bitAnd to (getD rows v 0)) 0))))
+
+abbrev μ-loop : tie.MeasureT-loop
+μ-loop s t a rows n from to all₀ u₀ all u = n - u
+
+after-requires : tie.Need-after-requires Inv-loop μ-loop
+after-requires c κs = search needs
+
+after-requires-2 : tie.Need-after-requires-2 Inv-loop μ-loop
+after-requires-2 c κs = search needs
+
+loop-holds : tie.Need-loop-holds Inv-loop μ-loop
+unfolding forAll
+loop-holds c = (omega arith, refl)
+
+member-requires : tie.Need-member-requires Inv-loop μ-loop
+member-requires c κs = search needs
+
+mul-all : tie.Need-mul-all Inv-loop μ-loop
+mul-all c = search needs
+
+array-read-all : tie.Need-array-read-all Inv-loop μ-loop
+array-read-all c = search needs
+
+add-u : tie.Need-add-u Inv-loop μ-loop
+add-u c = search needs
+
+loop-less : tie.Need-loop-less Inv-loop μ-loop
+loop-less c = omega arith
+
+loop-again : tie.Need-loop-again Inv-loop μ-loop
+unfolding implies
+loop-again c = (omega arith, all-more _ _ (c .before .before .loop .inv .1) (rw (c .member .ensures)))
+
+returns : tie.Need-returns Inv-loop μ-loop
+returns c =
+    let a = c .before .before .before .before .args in
+    let e : c .before .loop .u ≡ a .graph .states = omega arith in
+    c .before .loop .inv .1 ∙ rw e (met-masks (a .graph) (a .t2) (a .s) (a .t) (a .a) _ _ (c .before .before .before .after .ensures) (c .before .before .after2 .ensures))
+
+pub met-by-spec : {M : Type 1} → statement M
+met-by-spec =
+    tie.close
+    (tie.spec
+    Inv-loop
+    μ-loop
+    after-requires
+    after-requires-2
+    loop-holds
+    member-requires
+    mul-all
+    array-read-all
+    add-u
+    loop-less
+    loop-again
+    returns)

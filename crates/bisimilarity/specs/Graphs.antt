@@ -1,0 +1,39 @@
+-- The state table that the code's graph holds.
+use Prim.Native.Nat.{ℕ, _+_, _*_, _^_, _≤_, _<_}
+use mathlib.Core.List.{List}
+use mathlib.Core.Path.{_≡_}
+use lib.Dec.{ltb}
+use lib.ListN.{length, getD}
+use Rattle.flc.specs.Sets.{both, has, setOf}
+use Rattle.flc.specs.Formula.{Table}
+use Rattle.flc.specs.Bisimulation.{actions}
+use Rattle.case_model.specs.Case.{Case, listed, table}
+use Rattle.case_model.specs.Rows.{mostStates}
+use Rattle.bisimilarity.specs.declared.graph.Graph.{Graph}
+
+abbrev pub tableOf : Graph → Table
+tableOf g = record {
+  n = g .states;
+  label = λ s. getD (g .labels) s 0;
+  step = λ s a t. both (ltb a actions) (has (getD (g .successors) (8 * s + a) 0) t);
+}
+
+-- entry 8s + a is the set of the states after a step of s by a
+abbrev pub Successors : Case → List ℕ → Type 0
+Successors c entries =
+    (s a : ℕ) → a < actions → getD entries (8 * s + a) 0 ≡ setOf (length (c .labels)) (listed (c .steps) s a)
+
+-- at most 16 states, and no step to another number
+pub record Sized (g : Graph) : Type 0 where
+  pub few : g .states ≤ mostStates
+  pub within : (s a : ℕ) → a < actions → getD (g .successors) (8 * s + a) 0 < 2 ^ g .states
+
+-- the graph of a case
+pub record Drawn (c : Case) (g : Graph) : Type 0 where
+  pub sized : Sized g
+  pub is : tableOf g ≡ table c
+
+-- x is the set of the states after a step of s by a
+pub record After (g : Graph) (s a x : ℕ) : Type 0 where
+  pub small : x < 2 ^ g .states
+  pub is : (t : ℕ) → has x t ≡ tableOf g .step s a t
