@@ -48,7 +48,7 @@ none-in s t = rw (zero-div (2 ^ s), zero-div (2 ^ t))
 
 module _ {c : Case} (valid : Valid c) (k r : ℕ) (kr : k < r) (rn : r < length (c .labels)) where
   -- ---- the table: one state fewer, its label, its steps
-  pub merge-states : length (merge c k r .labels) ≡ length (c .labels) - 1
+  merge-states : length (merge c k r .labels) ≡ length (c .labels) - 1
   unfolding merge
   merge-states = simp (length-append, length-take-le r (c .labels) (omega arith), length-drop) (omega arith)
 
