@@ -46,7 +46,7 @@ unfoldable pub Each : (List ℕ → Call → Type 0) → List ℕ → List Call 
 Each P f [] = Unit
 Each P f (c ∷ l) = P f c × Each P (handed f (c .told) (c .after)) l
 
--- "Unlike is refusal 10 of two different states.": a merge of two different states of the case in f gets it exactly if no bisimulation of that case relates them
+-- unlike: a merge of two different states of the case in f is refused by row 10 exactly if no bisimulation of that case relates the two
 abbrev pub UnlikeTold : List ℕ → Call → Type 0
 UnlikeTold f c =
     (s t room : ℕ) → edit c ≡ merges s t room → s < length (read f .labels) → t < length (read f .labels) → (s ≡ t → ⊥)
