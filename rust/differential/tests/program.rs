@@ -127,6 +127,17 @@ fn the_work_area() {
     }
 }
 
+/// The program reads how many states there are before it knows that there are not too many.
+#[test]
+fn too_many_states() {
+    for states in [17, 64, 6_000] {
+        assert_eq!(check_case(&tau(states, 1)), "refused 2 0\n");
+    }
+    let mut file = write(&tau(1, 1));
+    file[2..4].fill(255);
+    assert_eq!(check(&file), "refused 1 0\n");
+}
+
 #[test]
 fn two_digits() {
     let print = check_case(&wheels(3, 7));
