@@ -1,10 +1,21 @@
-/* Checking case files: one state table and one rule in Fixed Point Logic with Chop.
+/* Hoidrul checks case files: one state table and one rule of Fixed Point Logic with Chop.
  *
- * Every function takes any bytes and any numbers. `file` points to `len` bytes, which are only read.
- * A lent area does not overlap the file. A refusal leaves it unchanged.
+ * Arguments. Every function takes any bytes and any numbers. `file` points to `len` bytes, which are only read.
+ * A lent area, `work` or `out`, must not overlap the file. A pointer may be null where its length is 0.
  *
- * A refusal has bit 63 set, its number (1 to 13) in bits 32 to 62 and its place in bits 0 to 31.
- * The place is the triple in refusal 3, the node in 5 and 6, and else 0. No answer has bit 63 set.
+ * Replies. A refusal has bit 63 set, its number in bits 32 to 62 and its place in bits 0 to 31; an answer has bit 63
+ * clear. The place is the triple in refusal 3, the node in 5 and 6, and else 0. A refusal leaves lent areas unchanged.
+ * The inline functions below take replies apart.
+ *
+ * Threads. Nothing is kept from call to call and there is no global state: threads may call at once, each with areas
+ * of its own. They may share a file that nobody writes.
+ *
+ * Stack. Every call fits in a thread with HOIDRUL_STACK bytes of stack. hoidrul_judge takes about 75 KiB of
+ * them, so 64 KiB are too few; the others take about 30 KiB.
+ *
+ * Time. Judging can take hours: a binder takes up to n * 2^n rounds on n states, and nested binders of alternating
+ * kinds multiply theirs. Only ending its thread or process stops a call. The other functions end within about a
+ * millisecond.
  */
 #ifndef HOIDRUL_H
 #define HOIDRUL_H
@@ -16,33 +27,94 @@
 extern "C" {
 #endif
 
-/* Vetting. Sections are 0 (labels), 1 (steps) and 2 (rule); any other gets refusal 8.
- * Answer: n + m * 2^16 for a case of n states and m nodes. Refusals: 1 to 8. */
+/* The longest case, in bytes. An `out` of this length has room for every result. */
+#define HOIDRUL_LONGEST 6365
+
+/* Enough stack for a thread that calls, in bytes. */
+#define HOIDRUL_STACK 131072
+
+/* The sections of a case. */
+#define HOIDRUL_LABELS 0
+#define HOIDRUL_STEPS 1
+#define HOIDRUL_RULE 2
+
+/* The numbers of refusals, the lowest tested first. Later versions have more: let a switch have a default. */
+enum hoidrul_reason {
+    /* under 12 or over 6,365 bytes, or the pairs do not lay three sections end to end */
+    HOIDRUL_REASON_PAIRS = 1,
+    /* no label, or more than 16 */
+    HOIDRUL_REASON_LABELS = 2,
+    /* the steps end inside a triple, or a triple names no state or action of the case or does not rise */
+    HOIDRUL_REASON_STEPS = 3,
+    /* the rule is not 1 to 64 whole nodes and then the number of one of them */
+    HOIDRUL_REASON_RULE = 4,
+    /* a node's kind or bytes are out of range, or it names a node that is not below it */
+    HOIDRUL_REASON_NODE = 5,
+    /* a variable is bound a second time */
+    HOIDRUL_REASON_BINDER = 6,
+    /* a variable is free in the root */
+    HOIDRUL_REASON_FREE = 7,
+    /* the section, set or state asked for is not in the case */
+    HOIDRUL_REASON_BEYOND = 8,
+    /* the work area is too small */
+    HOIDRUL_REASON_WORK = 9,
+    /* the two states are one state, or are not alike */
+    HOIDRUL_REASON_UNLIKE = 10,
+    /* there is no law or node of that number, or the law's shape is not there */
+    HOIDRUL_REASON_SHAPE = 11,
+    /* the rewritten rule would have more than 64 nodes */
+    HOIDRUL_REASON_TOO_MANY_NODES = 12,
+    /* the output area is too small for the result */
+    HOIDRUL_REASON_ROOM = 13
+};
+
+/* Vetting. Answer: n + m * 2^16 for a case of n states and m nodes.
+ * Refusals: 1 to 7, 8 if there is no such section. */
 uint64_t hoidrul_vet(const uint8_t *file, size_t len, size_t section);
 
 /* Opening. Answer: offset * 2^32 + length, both in bytes, of the section within `file`.
- * Answers 0 where hoidrul_vet refuses; a section's offset is never 0, so 0 is no section. */
+ * Where hoidrul_vet refuses it answers 0, which is no section, since no offset is 0. */
 uint64_t hoidrul_open(const uint8_t *file, size_t len, size_t section);
 
-/* Judging on a set of states, bit i for state i. `work` points to `words` 16-bit words, whatever they hold;
- * 2 * m * 2^n of them are enough, and all of them hold zero after an answer.
- * Answer: set + rounds * 2^16. Refusals: 1 to 7, 8 if set >= 2^n, 9 if the work area is too short. */
+/* Judging on a set of states, bit i for state i: what the rule makes of it. On the set of all states, that is the
+ * set of the states that hold. `work` points to `words` 16-bit words of any values; hoidrul_words tells how many are
+ * enough, and all are zero after an answer. Answer: set + rounds * 2^16. Refusals: 1 to 7, 8 if set >= 2^n, 9. */
 uint64_t hoidrul_judge(const uint8_t *file, size_t len, uint16_t set, uint16_t *work, size_t words);
 
-/* The functions below write to `out`, an area of `room` bytes. Answer: the count of bytes written, from its start;
- * the bytes past them stay as they were. Refusal 13 if the area is shorter than the result. */
+/* The three below write to `out`, an area of `room` bytes. Answer: the count of bytes written, from its start;
+ * those past them stay as they were. Refusal 13 if the area is shorter than the result. */
 
-/* Classes: for each state one byte, the lowest state alike to it. Refusals: 1 to 7, 13. */
+/* Classes: one byte a state, the lowest state alike to it. Refusals: 1 to 7, 13. */
 uint64_t hoidrul_classes(const uint8_t *file, size_t len, uint8_t *out, size_t room);
 
 /* Merging states s and t, in either order: the file of the case in which the lower stands for both.
- * Refusals: 1 to 7, 8 if s or t is beyond the case, 10 if they are one state or not alike, 13. */
+ * Refusals: 1 to 7, 8 if s or t is beyond the case, 10, 13. */
 uint64_t hoidrul_merge(const uint8_t *file, size_t len, size_t s, size_t t, uint8_t *out, size_t room);
 
-/* Rewriting by a law, 1 to 9, at a node: the file of the case with that rule.
- * Refusals: 1 to 7, 11 if there is no such law or node or its shape does not fit, 12 if the rule would pass
- * 64 nodes, 13. */
+/* Rewriting by a law, 1 to 9, at a node: the file of the case with that rule. Refusals: 1 to 7, 11 to 13. */
 uint64_t hoidrul_rewrite(const uint8_t *file, size_t len, size_t law, size_t node, uint8_t *out, size_t room);
+
+/* Of every reply but opening's: is it a refusal? If so, its number, of enum hoidrul_reason, and its place. */
+static inline int hoidrul_refused(uint64_t reply) { return (reply >> 63) != 0; }
+static inline uint32_t hoidrul_number(uint64_t refusal) { return (uint32_t)((refusal >> 32) & 0x7fffffff); }
+static inline uint32_t hoidrul_place(uint64_t refusal) { return (uint32_t)(refusal & 0xffffffff); }
+
+/* Of vetting's answer: n and m. */
+static inline size_t hoidrul_states(uint64_t answer) { return (size_t)(answer & 0xffff); }
+static inline size_t hoidrul_nodes(uint64_t answer) { return (size_t)(answer >> 16); }
+
+/* Of opening's answer: the section's offset within the file, and its length. */
+static inline size_t hoidrul_offset(uint64_t answer) { return (size_t)(answer >> 32); }
+static inline size_t hoidrul_length(uint64_t answer) { return (size_t)(answer & 0xffffffff); }
+
+/* Of judging's answer: the set, the rounds, and whether a state is in the set. */
+static inline uint16_t hoidrul_set(uint64_t answer) { return (uint16_t)(answer & 0xffff); }
+static inline uint64_t hoidrul_rounds(uint64_t answer) { return answer >> 16; }
+static inline int hoidrul_holds(uint64_t answer, size_t state) { return state < 16 && ((answer >> state) & 1) != 0; }
+
+/* For judging a case of n states, at most 16, and m nodes: the set of all states, and words that are enough. */
+static inline uint16_t hoidrul_all_states(size_t n) { return (uint16_t)(((uint64_t)1 << n) - 1); }
+static inline size_t hoidrul_words(size_t n, size_t m) { return (2 * m) << n; }
 
 #ifdef __cplusplus
 }

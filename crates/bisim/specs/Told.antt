@@ -1,4 +1,4 @@
--- The paper's number and values for each case of the answer of an entry that writes.
+-- The number and values that docs/SPECIFICATION.md, clauses 7.1 and 7.6, has for each case of the answer of an entry that writes.
 use Prim.Native.Nat.{ℕ}
 use Rattle.case_model.specs.Replies.{Reply, answers, refuses}
 use Rattle.case_file.specs.Told.{number}

@@ -68,7 +68,7 @@ fn write_classes(file: &[u8], out: &mut [u8]) -> Written
     Written::Bytes(n)
 }
 
-// For each state the lowest state alike to it, one byte a state.
+// Writes a byte for each state: the lowest that is alike to it.
 pub fn classes(file: &[u8], out: &mut [u8]) -> Written
     ensures { λ r. ⌜ told r ≡ counted (classing (now (file .entry)) (length (now (out .entry)))) ⌝ }
     ensures { λ r. ⌜ now (out .exit) ≡ written (classing (now (file .entry)) (length (now (out .entry)))) (now (out .entry)) ⌝ }

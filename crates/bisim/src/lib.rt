@@ -1,4 +1,4 @@
-// Classes of alike states. Document 01, "Alike states", with refusals 1 to 7 and 13.
+// Classes of alike states: docs/SPECIFICATION.md, clause 4.3, with refusals 1 to 7 and 13.
 mod entries;
 mod written;
 

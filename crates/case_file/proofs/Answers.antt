@@ -78,5 +78,5 @@ number-small reason.Beyond = omega arith
 number-small reason.Work = omega arith
 number-small reason.Unlike = omega arith
 number-small reason.Shape = omega arith
-number-small reason.Nodes = omega arith
+number-small reason.TooManyNodes = omega arith
 number-small reason.Room = omega arith

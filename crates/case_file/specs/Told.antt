@@ -1,4 +1,4 @@
--- The paper's number and values for each case of the enums of the code.
+-- The number and values that docs/SPECIFICATION.md has for each case of the code's enums: sections 7 and 8.
 use Prim.Native.Nat.{ℕ, _≤_, _<_}
 use mathlib.Core.Bool.{Bool}
 use mathlib.Core.List.{List}
@@ -18,7 +18,7 @@ use Rattle.case_file.specs.declared.vetting.Finding.{Finding}
 use Rattle.case_file.specs.declared.vetting.Finding.the-variants as finding
 use Rattle.case_file.specs.declared.vetting.Vetting.{Vetting}
 
--- the numbers of "Turned back, by number"
+-- clauses 8.1 to 8.13: the number of each reason
 abbrev pub number : Reason → ℕ
 number reason.Pairs = 1
 number reason.Labels = 2
@@ -31,7 +31,7 @@ number reason.Beyond = 8
 number reason.Work = 9
 number reason.Unlike = 10
 number reason.Shape = 11
-number reason.Nodes = 12
+number reason.TooManyNodes = 12
 number reason.Room = 13
 
 abbrev pub found : Finding → Found
@@ -41,6 +41,7 @@ found (finding.Refused r) = refused (number (r .reason)) (r .place)
 abbrev pub countsOf : Case → Counts
 countsOf c = record { states = c .states; nodes = c .nodes }
 
+-- clause 7.1: the reply that an answer of the code is
 abbrev pub told : Vetted → Reply Counts
 told (vetted.Case c) = answers (countsOf c)
 told (vetted.Refused r) = refuses (number (r .reason)) (r .place)

@@ -1,4 +1,4 @@
-// The case file: vetting it, and opening a section. Document 01, "The case file" and refusals 1 to 8.
+// The case file: vetting it, and opening a section. docs/SPECIFICATION.md, section 1 and refusals 1 to 8.
 mod entries;
 mod reason;
 mod tests;

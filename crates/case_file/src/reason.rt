@@ -1,4 +1,4 @@
-// Refusals: the reasons in the order of document 01's table, with a place.
+// Refusals: the reasons in the order of their numbers (docs/SPECIFICATION.md, section 8), with a place.
 ghost use mathlib.Core.Path.{_≡_};
 ghost use Rattle.case_file.specs.Told.{number};
 
@@ -14,7 +14,7 @@ pub enum Reason {
     Work,
     Unlike,
     Shape,
-    Nodes,
+    TooManyNodes,
     Room,
 }
 
@@ -24,7 +24,7 @@ pub struct Refusal {
 }
 
 impl Refusal {
-    // The paper's number.
+    // The number of the refusal.
     pub fn number(self) -> u64
         ensures { λ r. ⌜ r ≡ number (self .reason) ⌝ }
     {
@@ -41,7 +41,7 @@ impl Refusal {
             Reason::Work => 9,
             Reason::Unlike => 10,
             Reason::Shape => 11,
-            Reason::Nodes => 12,
+            Reason::TooManyNodes => 12,
             Reason::Room => 13,
         }
     }

@@ -1,4 +1,4 @@
-// Vetting: refusals are tested in rising number, each test a step of a state that goes by value.
+// Vetting: from refusal 1 up, each test a step of a state that goes by value.
 ghost use mathlib.Core.Path.{_≡_};
 ghost use Prim.Native.Nat.{_≤_, _<_};
 ghost use lib.ListN.{length};
@@ -122,7 +122,7 @@ impl Vetting {
         }
     }
 
-    // Rows 1 to 7, in rising number.
+    // Rows 1 to 7, in this order.
     pub(crate) fn rows(file: &[u8]) -> Vetting
         ensures { λ r. ⌜ Stage (now (file .entry)) r (refusals (now (file .entry))) ⌝ }
     {

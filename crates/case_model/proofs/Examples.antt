@@ -1,4 +1,4 @@
--- The examples of the table of refusals, rows 1 to 8, and case F's bytes, computed from the definitions.
+-- Examples of refusals 1 to 8, and case F's bytes, computed from the definitions.
 -- By computation: a slip in a row, or two rows exchanged, makes one of these equations false.
 use Prim.Native.Nat.{ℕ}
 use mathlib.Core.List.{List, [], _∷_, _++_}
@@ -29,7 +29,7 @@ nodes =
 abbrev F : List ℕ
 F = caseOf labels steps nodes 9
 
--- "Bytes: 12 0 2 0, 14 0 6 0, 20 0 31 0; 0 0; .."
+-- the first bytes of case F
 bytes : F ≡ 12 ∷ 0 ∷ 2 ∷ 0 ∷ 14 ∷ 0 ∷ 6 ∷ 0 ∷ 20 ∷ 0 ∷ 31 ∷ 0 ∷ 0 ∷ 0 ∷ 0 ∷ 0 ∷ 1 ∷ 1 ∷ 1 ∷ 1 ∷ 4 ∷ 0 ∷ 0 ∷ 4 ∷ 1 ∷ 0 ∷ 10 ∷ 0 ∷ 1 ∷ 10 ∷ 2 ∷ 0 ∷ 12 ∷ 1 ∷ 3 ∷ 6 ∷ 0 ∷ 0 ∷ 10 ∷ 5 ∷ 4 ∷ 6 ∷ 1 ∷ 0 ∷ 8 ∷ 7 ∷ 6 ∷ 11 ∷ 0 ∷ 8 ∷ 9 ∷ []
 unfolding write packed
 bytes = refl
@@ -49,10 +49,12 @@ rows :
     × (vetting (caseOf labels steps nodes 10) 0 ≡ refuses 4 0)
     × (vetting (caseOf labels steps (set nodes 2 (10, 0, 2)) 9) 0 ≡ refuses 5 2)
     × (vetting (caseOf labels steps (set nodes 4 (12, 0, 3)) 9) 0 ≡ refuses 6 9)
+    × (vetting (caseOf labels steps (set nodes 7 (2, 8, 0)) 9) 0 ≡ refuses 5 7)
     × (vetting (caseOf labels steps nodes 4) 0 ≡ refuses 7 0)
+    × (vetting (caseOf labels steps nodes 5) 0 ≡ answers (record { states = 2; nodes = 10 }))
     × (vetting F 3 ≡ refuses 8 0)
 unfolding write packed vetting refusals pairsHold chained section listOf lowest first forAll forSome both either rootClosed rule formulaAt lower nodeAt nodeOf kinds free
-rows = (refl, refl, refl, refl, refl, refl, refl, refl, refl, refl, refl, refl)
+rows = (refl, refl, refl, refl, refl, refl, refl, refl, refl, refl, refl, refl, refl, refl)
 
 -- row 1: each section begins where the one before ends, and the last ends with the file. One state, no steps, τ; then a byte left between two sections, and one after the last
 chains :

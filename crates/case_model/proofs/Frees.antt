@@ -168,7 +168,7 @@ module _ (c : Case) where
       is : (i : ℕ) → i < 64 → getD (masks (c .nodes) j) i 0 ≡ setOf variables (λ v. free v (formulaAt (nodeAt c) i))
       is i l = let m = mask i l in sym (setOf-has 16 _ (m .small)) ∙ setOf-ext 16 _ _ (m .bits)
 
--- the root's set is empty just if the root has no free variable
+-- the root's set is empty just if nothing is free in the root
 pub closed-empty : (c : Case) → eqb (setOf variables (λ v. free v (rule c))) 0 ≡ rootClosed c
 unfolding rootClosed
 closed-empty c =

@@ -14,7 +14,7 @@ use Rattle.flc.proofs.Tests.{both-left, both-right, both-mk, either-use, either
 use Rattle.flc.proofs.Unfolding.{Names, Lower, formulaAt-node}
 use Rattle.flc.proofs.Laws.{Same, Constant, Pointwise, same-refl, same-sym, same-trans, same-op, same-fix, law-1, law-2, law-3, law-4, law-6, law-8, law-9}
 
--- "At node j, left shape to right shape": laws 6 and 7 in one line, and so 8 and 9 for or and and
+-- clause 5.1: laws 6 and 7 in one line, and so 8 and 9 for or and and
 pub record Lawful (R : Formula → Formula → Type 0) : Type 0 where
   pub self : (p : Formula) → R p p
   pub then : (p q r : Formula) → R p q → R q r → R p r

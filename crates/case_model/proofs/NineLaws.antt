@@ -141,26 +141,26 @@ module _ {c : Case} (valid : Valid c) where
 
     -- ---- laws whose left shape is a chop
     module _ (J : IsOp chop j) where
-      -- τ;A to A
+      -- law 1: τ;A = A
       fit-1 : at N a .0 ≡ 5 → Fit c j (at N j ∷ []) (redirected j b)
       fit-1 e =
           let t : f a ≡ atom tau = f-tree a (omega (arith, J .inside, J .one)) ∙ rw (node-tau (at N a) e) in
           redirects chop J b (J .other) (λ R K. rw (J .parts, t) (K .law1 (f b)))
 
-      -- A;τ to A
+      -- law 2: A;τ = A
       fit-2 : at N b .0 ≡ 5 → Fit c j (at N j ∷ []) (redirected j a)
       fit-2 e =
           let t : f b ≡ atom tau = f-tree b (omega (arith, J .inside, J .other)) ∙ rw (node-tau (at N b) e) in
           redirects chop J a (J .one) (λ R K. rw (J .parts, t) (K .law2 (f a)))
 
-      -- q;A to q
+      -- law 3: q;A = q
       fit-3 : at N a .0 ≤ 3 → Fit c j (at N j ∷ []) (redirected j a)
       fit-3 e =
           let (q, k, n) = node-constant (at N a) e in
           let t : f a ≡ atom q = f-tree a (omega (arith, J .inside, J .one)) ∙ rw n in
           redirects chop J a (J .one) (λ R K. rw (J .parts, t) (K .law3 q k (f b)))
 
-      -- (A;B);C to A;(B;C)
+      -- law 4: (A;B);C = A;(B;C)
       fit-4 : IsOp chop a → Fit c j ((10, at N a .2, b) ∷ (10, at N a .1, j) ∷ []) (shifted j 1)
       unfolding nodeOf kinds
       fit-4 X =
@@ -172,7 +172,7 @@ module _ {c : Case} (valid : Valid c) where
           rw (J .parts, X .parts, m1, m0)
           (K .then _ _ _ (K .law4 _ _ _) (K .in-op chop _ _ _ _ (ih _ p) (K .in-op chop _ _ _ _ (ih _ q) (ih b (J .other))))))
 
-      -- A;(B;C) to (A;B);C
+      -- law 5: A;(B;C) = (A;B);C
       fit-5 : IsOp chop b → Fit c j ((10, a, at N b .1) ∷ (10, j, at N b .2) ∷ []) (shifted j 1)
       unfolding nodeOf kinds
       fit-5 Y =
@@ -184,7 +184,7 @@ module _ {c : Case} (valid : Valid c) where
           rw (J .parts, Y .parts, m1, m0)
           (K .then _ _ _ (K .law5 _ _ _) (K .in-op chop _ _ _ _ (K .in-op chop _ _ _ _ (ih a (J .one)) (ih _ p)) (ih _ q))))
 
-      -- (A or B);C to (A;C) or (B;C); for and it is law 7
+      -- law 6: (A or B);C = (A;C) or (B;C); for and it is law 7
       fit-6 : (o : Op) → Pointwise o → IsOp o a → Fit c j ((10, at N a .1, b) ∷ (10, at N a .2, b) ∷ (kindOf o, j, suc j) ∷ []) (shifted j 2)
       unfolding nodeOf kinds
       fit-6 o w X =
@@ -201,11 +201,11 @@ module _ {c : Case} (valid : Valid c) where
 
     -- ---- laws whose left shape is an or or an and
     module _ (o : Op) (w : Pointwise o) (J : IsOp o j) where
-      -- A or A to A; likewise and
+      -- law 8: A or A = A; so with and
       fit-8 : a ≡ b → Fit c j (at N j ∷ []) (redirected j a)
       fit-8 e = redirects o J a (J .one) (λ R K. rw (J .parts, ← e) (K .law8 o w (f a)))
 
-      -- A or B to B or A; likewise and
+      -- law 9: A or B = B or A; so with and
       fit-9 : Fit c j ((at N j .0, b, a) ∷ []) (shifted j 0)
       fit-9 = inserts _ (J .inside) (omega arith) (pair o (J .kind) (J .other) (J .one), tt) (λ R K ψ mid ih.
           let m0 : ψ (j + 0) ≡ op o (ψ b) (ψ a) = mid 0 (j + 0) refl (omega arith) ∙ ap (λ n. tree n ψ) (node-op o (at N j .0, b, a) (J .kind)) in

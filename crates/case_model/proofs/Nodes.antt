@@ -128,7 +128,7 @@ module _ {c : Case} (valid : Valid c) where
     | false ↦ free-below w h j (omega arith) i
   ] t
 
-  -- the root has no free variable of any number
+  -- no variable of any number is free in the root
   pub closed-all : (w : ℕ) → T (free w (rule c)) → ⊥
   unfolding rule formulaAt rootClosed
   closed-all w t = elim (decLt w variables) [

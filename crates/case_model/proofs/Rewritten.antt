@@ -45,7 +45,7 @@ module _ {c : Case} (valid : Valid c) (law j : ℕ) {l : List Triple} {g : ℕ �
   unfolding rootClosed
   root-closed = is-true _ (forAll-mk variables _ (λ v h. not-T (free v (rule (rewrite c j (swap l g)))) (λ t. closed-all valid v (root-frees v t))))
 
-  -- "rewriting would pass 64 nodes" aside, the new case is valid
+  -- unless it has too many nodes (clause 8.12), the new case is valid
   pub rewrite-valid : length (rewrite c j (swap l g) .nodes) ≤ mostNodes → Valid (rewrite c j (swap l g))
   rewrite-valid few = record {
     some = unfold rewrite in valid .some;

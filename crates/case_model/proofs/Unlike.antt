@@ -40,7 +40,7 @@ turned sound true false d e y h = refl
 turned sound false true d e y h = refl
 turned sound false false d e y h = refl
 
--- "given in either order"
+-- clause 4.4: which state is named first makes no difference
 pub merge-either : (f : List ℕ) (s t room : ℕ) → merging f s t room ≡ merging f t s room
 unfolding merging
 merge-either f s t room =
@@ -65,7 +65,7 @@ module _ (f : List ℕ) (ok : refusals f ≡ sound) (s t : ℕ) (i : s < length 
   unfolding table
   unrelated n R B r = n (alike-mk L R (bisimulation-use L (valid-acts (accepted-valid f ok)) R B) s t i j r)
 
-  -- "Unlike is refusal 10 of two different states."
+  -- clause 4.7
   pub unlike-exactly : (room : ℕ)
       → (merging f s t room ≡ refuses 10 0) ↔ ((R : ℕ → ℕ → Bool) → T (bisimulation (table (read f)) R) → T (R s t) → ⊥)
   unfolding merging

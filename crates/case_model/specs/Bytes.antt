@@ -1,11 +1,11 @@
--- The bytes of a case file, its pairs and its sections, over any list of bytes. Document 01, "The case file".
+-- The bytes of a case file, its pairs and its sections, over any list of bytes: docs/SPECIFICATION.md, section 1.
 use Prim.Native.Nat.{ℕ, zero, suc, _+_, _*_, _/_, _%_}
 use mathlib.Core.Bool.{Bool, _&&_}
 use mathlib.Core.List.{List, [], _∷_, _++_}
 use lib.ListN.{length, getD}
 use lib.Dec.{eqb, leb}
 
--- "The longest case is 6,365 bytes." "Three pairs come first"
+-- clause 1.3: the length that no case exceeds; clause 1.1: a pair for each of three sections
 abbrev pub longest : ℕ
 longest = 6365
 
@@ -21,7 +21,7 @@ listOf (suc k) h = h zero ∷ listOf k (λ i. h (suc i))
 abbrev pub byteAt : List ℕ → ℕ → ℕ
 byteAt f at = getD f at 0
 
--- "A pair is an offset and a length, each two bytes, low byte first."
+-- clause 1.1: a number of two bytes, the low one first; where section k begins, and how long it is
 abbrev pub wordAt : List ℕ → ℕ → ℕ
 wordAt f at = byteAt f at + 256 * byteAt f (at + 1)
 
@@ -31,19 +31,20 @@ offset f k = wordAt f (4 * k)
 abbrev pub size : List ℕ → ℕ → ℕ
 size f k = wordAt f (4 * k + 2)
 
--- "each next one is where the section before ends, and the last section ends with the file": c sections from section k on, the first at `at`
+-- clause 1.2: c sections lie end to end up to the end of the file, from section k on, which begins at `at`
 unfoldable pub chained : List ℕ → ℕ → ℕ → ℕ → Bool
 chained f at k zero = eqb at (length f)
 chained f at k (suc c) = eqb (offset f k) at && chained f (at + size f k) (suc k) c
 
--- "The first offset is 12"
+-- clauses 1.1, 1.2 and 1.3: the head is there, the file is not too long, and sections follow the head
 unfoldable pub pairsHold : List ℕ → Bool
 pairsHold f = leb (4 * sections) (length f) && leb (length f) longest && chained f (4 * sections) 0 sections
 
+-- clause 1.13: the bytes of section k
 unfoldable pub section : List ℕ → ℕ → List ℕ
 section f k = listOf (size f k) (λ i. byteAt f (offset f k + i))
 
--- ---- writing: a pair for each section, the first section at `at`; then the sections
+-- ---- clause 1.15, writing: a pair for each section, the first section at `at`; then the sections
 abbrev pub word : ℕ → List ℕ
 word x = x % 256 ∷ x / 256 ∷ []
 

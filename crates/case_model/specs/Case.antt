@@ -1,4 +1,4 @@
--- A case as data: how it is read from a file, how it is written, its state table and its rule. Document 01, "The case file".
+-- A case as data: how it is read from a file, how it is written, its state table and its rule: docs/SPECIFICATION.md, section 1.
 use Prim.Native.Nat.{ℕ, _+_, _*_, _/_}
 use mathlib.Core.Bool.{Bool, true, false}
 use mathlib.Core.List.{List, [], _∷_, _++_}
@@ -26,7 +26,7 @@ tripleAt f at = (byteAt f at, byteAt f (at + 1), byteAt f (at + 2))
 abbrev pub triples : List ℕ → ℕ → List Triple
 triples f k = listOf (size f k / 3) (λ i. tripleAt f (offset f k + 3 * i))
 
--- "Section 0, labels", "Section 1, steps", "Section 2, rule: .. nodes of three bytes (kind, A, B), then one byte, the root's node number."
+-- clauses 1.4, 1.5 and 1.6: labels, steps, nodes, and the root behind the nodes
 abbrev pub read : List ℕ → Case
 read f = record {
   labels = section f 0;
@@ -39,6 +39,7 @@ abbrev pub flat : List Triple → List ℕ
 flat [] = []
 flat (t ∷ l) = t .0 ∷ t .1 ∷ t .2 ∷ flat l
 
+-- clause 1.15: the sections behind their head
 unfoldable pub write : Case → List ℕ
 write c = packed (c .labels ∷ flat (c .steps) ∷ (flat (c .nodes) ++ (c .root ∷ [])) ∷ [])
 
@@ -55,7 +56,7 @@ table c = record { n = length (c .labels); label = λ s. getD (c .labels) s 0; s
 abbrev pub at : List Triple → ℕ → Triple
 at l i = getD l i (0, 0, 0)
 
--- kinds 0 to 12 with A and B
+-- clause 1.7: kinds 0 to 12, in order, with operands a and b
 unfoldable pub kinds : ℕ → ℕ → List Node
 kinds a b =
     leaf (atom top) ∷ leaf (atom bottom)

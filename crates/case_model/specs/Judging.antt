@@ -1,4 +1,4 @@
--- Judging. Document 01, "Judging" and "Meaning", with rows 8 and 9.
+-- Judging: docs/SPECIFICATION.md, section 3, with refusals 8 and 9.
 use Prim.Native.Nat.{ℕ, _*_, _^_}
 use mathlib.Core.List.{List}
 use lib.Dec.{leb}
@@ -9,7 +9,7 @@ use Rattle.case_model.specs.Case.{Case, read, table, nodeAt, rule}
 use Rattle.case_model.specs.Rows.{Found, _orElse_, unless, row8, refusals}
 use Rattle.case_model.specs.Replies.{Reply, answers, refuses, replied}
 
--- "The answer is the root's function at X, and rounds."
+-- clause 3.2: a set and a number of rounds
 pub record Verdict : Type 0 where
   pub set : ℕ
   pub rounds : ℕ
@@ -17,15 +17,16 @@ pub record Verdict : Type 0 where
 unfoldable pub verdict : Case → ℕ → Verdict
 verdict c x = record { set = mean (table c) (rule c) none x; rounds = roundsAt (table c) (nodeAt c) (c .root) }
 
--- "a work area of 16-bit words, at least 2 × m × 2^n of them"
+-- clause 8.9: fewer words than clause 3.1 asks for
 abbrev pub row9 : Case → ℕ → Found
 row9 c words = unless (leb (2 * length (c .nodes) * 2 ^ length (c .labels)) words) 9 0
 
+-- clauses 3.1, 3.2 and 7.4: refusals 1 to 9, or the verdict at the set x
 unfoldable pub judging : List ℕ → ℕ → ℕ → Reply Verdict
 judging f x words =
     replied (refusals f orElse row8 x (2 ^ length (read f .labels)) orElse row9 (read f) words) (verdict (read f) x)
 
--- "The whole work area holds zero afterwards, as after every call that takes one and answers." "Every refusal leaves all lent areas unchanged."
+-- clause 3.3: zeros after an answer; clause 7.5: after a refusal, what was there
 abbrev pub cleared : {A : Type 0} → Reply A → List ℕ → List ℕ
 cleared (answers a) work = replicate (length work) 0
 cleared (refuses k p) work = work

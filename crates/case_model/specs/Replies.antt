@@ -1,4 +1,4 @@
--- What the entries reply. Document 01: "A reply is an answer, or a refusal with number and place."
+-- What the entries reply: docs/SPECIFICATION.md, section 7, with vetting and opening of section 1.
 use Prim.Native.Nat.{ℕ, _+_}
 use mathlib.Core.List.{List, []}
 use mathlib.Core.Path.{_≡_}
@@ -8,6 +8,7 @@ use Rattle.case_model.specs.Bytes.{offset, sections, section}
 use Rattle.case_model.specs.Case.{Case, read}
 use Rattle.case_model.specs.Rows.{Found, sound, refused, _orElse_, row8, refusals}
 
+-- clause 7.1: an answer, or a number and a place
 pub data Reply (A : Type 0) : Type 0 where
   answers : A → Reply A
   refuses : ℕ → ℕ → Reply A
@@ -16,7 +17,7 @@ abbrev pub replied : {A : Type 0} → Found → A → Reply A
 replied sound a = answers a
 replied (refused k p) a = refuses k p
 
--- "it takes the file and a section number, 0 to 2, and answers n and m"
+-- clause 1.12: n and m
 pub record Counts : Type 0 where
   pub states : ℕ
   pub nodes : ℕ
@@ -24,14 +25,15 @@ pub record Counts : Type 0 where
 abbrev pub counts : Case → Counts
 counts c = record { states = length (c .labels); nodes = length (c .nodes) }
 
--- a case of a file that none of refusals 1 to 7 meets
+-- clause 6.1: what an accepted file is answered with, before the section number is looked at
 unfoldable pub accepting : List ℕ → Reply Counts
 accepting f = replied (refusals f) (counts (read f))
 
+-- clauses 1.12 and 7.4: refusals 1 to 8, the section number last, or the counts
 unfoldable pub vetting : List ℕ → ℕ → Reply Counts
 vetting f k = replied (refusals f orElse row8 k sections) (counts (read f))
 
--- "Opening hands back a section as that part of the lent file, not a copy; where it refuses, the part is empty."
+-- clauses 1.13 and 1.14: the part where vetting answers, the empty one where it refuses
 abbrev pub opened : {A B : Type 0} → Reply A → B → B → B
 opened (answers a) part empty = part
 opened (refuses k p) part empty = empty
@@ -43,7 +45,7 @@ opening f k = opened (vetting f k) (section f k) []
 unfoldable pub openedAt : List ℕ → ℕ → ℕ
 openedAt f k = opened (vetting f k) (offset f k) 0
 
--- the part r of the lent file: its bytes, and its place in that file
+-- clause 1.13: the part r of the lent file has these bytes, and lies there in the same memory
 pub record Opened (file r : RefT (List ℕ)) (k : ℕ) : Type 0 where
   pub bytes : now r ≡ opening (now file) k
   pub block : ptr r .0 ≡ ptr file .0

@@ -1,4 +1,4 @@
--- The nine laws, and rewriting. Document 01, "The nine laws", with rows 11 to 13.
+-- The nine laws, and rewriting: docs/SPECIFICATION.md, section 5, with refusals 11 to 13.
 use Prim.Native.Nat.{ℕ, suc, _+_, _-_}
 use mathlib.Core.Bool.{Bool, true, false, _&&_, cond}
 use mathlib.Core.List.{List, [], _∷_, _++_, map}
@@ -14,15 +14,15 @@ pub data Change : Type 0 where
   nothing : Change
   swap : List Triple → (ℕ → ℕ) → Change
 
--- "every mention of j by another node, or as the root, becomes the remaining node"
+-- clause 5.2: k in place of j
 abbrev pub redirected : ℕ → ℕ → ℕ → ℕ
 redirected j k i = cond (eqb i j) k i
 
--- "numbers from j up move", by d
+-- clause 5.3: j and the numbers above it rise by d
 abbrev pub shifted : ℕ → ℕ → ℕ → ℕ
 shifted j d i = cond (ltb i j) i (i + d)
 
--- laws 1 to 9, in order, at node j = (k, a, b), which names x first and y second
+-- clause 5.1: laws 1 to 9, in order, at node j = (k, a, b), which names x first and y second
 abbrev pub lawsAt : ℕ → Triple → Triple → Triple → List Change
 lawsAt j (k, a, b) x y =
     let isChop : Bool = eqb k 10 in
@@ -41,7 +41,7 @@ lawsAt j (k, a, b) x y =
     ∷ given isPair (insert ((k, b, a) ∷ []))
     ∷ []
 
--- law 0, laws above 9 and nodes beyond the rule change nothing: a node past the end reads as tt
+-- clause 8.11: law 0, laws above 9 and nodes beyond the rule change nothing: a node past the end reads as tt
 unfoldable pub change : List Triple → ℕ → ℕ → Change
 change N law j = getD (nothing ∷ lawsAt j (at N j) (at N (at N j .1)) (at N (at N j .2))) law nothing
 
@@ -53,6 +53,7 @@ isThere (swap l g) = true
 abbrev pub renamed : (ℕ → ℕ) → Triple → Triple
 renamed g (k, a, b) = (k, cond (leb 8 k && leb k 10) (g a) a, cond (leb 8 k) (g b) b)
 
+-- clauses 5.2, 5.3 and 5.4: the rewritten case
 unfoldable pub rewrite : Case → ℕ → Change → Case
 rewrite c j nothing = c
 rewrite c j (swap l g) = record {
@@ -62,6 +63,7 @@ rewrite c j (swap l g) = record {
   root = g (c .root);
 }
 
+-- clauses 5.1, 7.4, 8.11 and 8.12: refusals 1 to 7 and 11 to 13, or the new file
 unfoldable pub rewriting : List ℕ → ℕ → ℕ → ℕ → Reply (List ℕ)
 rewriting f law j room =
     let e : Change = change (read f .nodes) law j in

@@ -1,4 +1,4 @@
--- Rows 1 to 8 of the table of refusals, over any list of bytes. Document 01, "Turned back, by number" and "The case file".
+-- Refusals 1 to 8, over any list of bytes: docs/SPECIFICATION.md, section 8, with the order and places of section 7.
 use Prim.Native.Nat.{ℕ, _-_, _%_}
 use mathlib.Core.Bool.{Bool, true, false, _&&_, _||_, not}
 use mathlib.Core.List.{List}
@@ -10,7 +10,7 @@ use Rattle.flc.specs.Bisimulation.{actions}
 use Rattle.case_model.specs.Bytes.{size, pairsHold}
 use Rattle.case_model.specs.Case.{Triple, Case, read, at, rule}
 
--- "n = 1 to 16 states", "m = 1 to 64 nodes", "proposition i (0 to 7)", "variable 0 to 15"
+-- clauses 1.4, 1.6 and 1.7: how many states, nodes, propositions and variables there can be
 abbrev pub mostStates : ℕ
 mostStates = 16
 
@@ -28,7 +28,7 @@ pub data Found : Type 0 where
   sound : Found
   refused : ℕ → ℕ → Found
 
--- "Refusals are tested in rising number."
+-- clause 7.3: the earlier refusal is the one given
 infixl 30 _orElse_
 abbrev pub _orElse_ : Found → Found → Found
 sound orElse later = later
@@ -39,24 +39,24 @@ abbrev pub unless : Bool → ℕ → ℕ → Found
 unless true k p = sound
 unless false k p = refused k p
 
--- refusal k at the lowest of c places that are wrong. "Place is the triple in 3 .. and the node in 5 and 6, lowest first"
+-- clause 7.2: refusal k at the lowest of c places that are wrong
 unfoldable pub lowest : ℕ → (ℕ → Bool) → ℕ → Found
 lowest k wrong c = unless (eqb (first wrong 0 c) c) k (first wrong 0 c)
 
--- "strictly rising as (from, action, to)"
+-- clause 1.5: u comes after t
 abbrev pub rises : Triple → Triple → Bool
 rises t u =
     ltb (t .0) (u .0)
     || (eqb (t .0) (u .0) && (ltb (t .1) (u .1) || (eqb (t .1) (u .1) && ltb (t .2) (u .2))))
 
--- "a state, action or order wrong"; "the later of two out of order"
+-- clauses 7.2 and 8.3: step i is at fault, by itself or as the second of two out of order
 abbrev pub stepWrong : Case → ℕ → Bool
 stepWrong c i =
     not (ltb (at (c .steps) i .0) (length (c .labels)) && ltb (at (c .steps) i .1) actions
     && ltb (at (c .steps) i .2) (length (c .labels))
     && (eqb i 0 || rises (at (c .steps) (i - 1)) (at (c .steps) i)))
 
--- "kind, range, unused byte not 0, or named node not lower": the lines of the table of kinds, for node j = (k, a, b)
+-- clauses 1.7, 1.8 and 8.5: the lines of the table of kinds, for node j = (k, a, b)
 abbrev pub nodeHolds : ℕ → Triple → Bool
 nodeHolds j (k, a, b) =
     (leb k 1 && eqb a 0 && eqb b 0)
@@ -70,7 +70,7 @@ nodeHolds j (k, a, b) =
 abbrev pub nodeWrong : Case → ℕ → Bool
 nodeWrong c j = not (nodeHolds j (at (c .nodes) j))
 
--- "A variable has at most one binder node in the file."
+-- clauses 1.9 and 8.6: node j binds what a lower node binds
 abbrev pub binds : Triple → ℕ → Bool
 binds t v = leb 11 (t .0) && eqb (t .1) v
 
@@ -78,25 +78,27 @@ abbrev pub binderWrong : Case → ℕ → Bool
 binderWrong c j =
     leb 11 (at (c .nodes) j .0) && forSome j (λ i. binds (at (c .nodes) i) (at (c .nodes) j .1))
 
--- "The root has no free variable."
+-- clauses 1.10 and 8.7: nothing is free in the tree of the root
 unfoldable pub rootClosed : Case → Bool
 rootClosed c = forAll variables (λ v. not (free v (rule c)))
 
--- ---- the rows
+-- ---- the rows of the table of refusals
+-- clause 8.1: the head, or the length of the file
 abbrev pub row1 : List ℕ → Found
 row1 f = unless (pairsHold f) 1 0
 
+-- clause 8.2: 1 to 16 labels
 abbrev pub labelsHold : Case → Bool
 labelsHold c = leb 1 (length (c .labels)) && leb (length (c .labels)) mostStates
 
 abbrev pub row2 : Case → Found
 row2 c = unless (labelsHold c) 2 0
 
--- "A bad section length in 3 has place 0."
+-- clause 8.3: the length of the section before its steps, at place 0
 abbrev pub row3 : List ℕ → Case → Found
 row3 f c = unless (eqb (size f 1 % 3) 0) 3 0 orElse lowest 3 (stepWrong c) (length (c .steps))
 
--- "rule length not 3m+1, m 1 to 64, or root not below m"
+-- clause 8.4: whole nodes, 1 to 64 of them, then the number of one
 abbrev pub ruleHolds : List ℕ → Case → Bool
 ruleHolds f c =
     eqb (size f 2 % 3) 1 && leb 1 (length (c .nodes)) && leb (length (c .nodes)) mostNodes && ltb (c .root) (length (c .nodes))
@@ -104,6 +106,7 @@ ruleHolds f c =
 abbrev pub row4 : List ℕ → Case → Found
 row4 f c = unless (ruleHolds f c) 4 0
 
+-- clauses 8.5 and 8.6: at the lowest node that is wrong
 abbrev pub row5 : Case → Found
 row5 c = lowest 5 (nodeWrong c) (length (c .nodes))
 
@@ -113,10 +116,11 @@ row6 c = lowest 6 (binderWrong c) (length (c .nodes))
 abbrev pub row7 : Case → Found
 row7 c = unless (rootClosed c) 7 0
 
--- row 8 for a number that must be below `count`: "set, state or section number beyond the case"
+-- clause 8.8, of a number that must be below `count`
 abbrev pub row8 : ℕ → ℕ → Found
 row8 x count = unless (ltb x count) 8 0
 
+-- clauses 6.1 and 7.3: the refusals of a file that is not accepted
 unfoldable pub refusals : List ℕ → Found
 refusals f =
     row1 f orElse row2 (read f) orElse row3 f (read f) orElse row4 f (read f)

@@ -1,4 +1,4 @@
--- Calls of merging and rewriting in a row, as their caller sees them. Document 01, "Edits in a row".
+-- Calls of merging and rewriting in a row, as their caller sees them: docs/SPECIFICATION.md, section 6.
 -- What the entries promise of a call is stated here once, over the file that the call gets; the plain book is in Book.antt.
 use Prim.Native.Nat.{ℕ, _<_}
 use mathlib.Core.Bool.{Bool, true, false}
@@ -16,7 +16,7 @@ use Rattle.case_model.specs.Judging.{Verdict, row9, judging}
 use Rattle.case_model.specs.Merging.{counted, written}
 use Rattle.case_model.specs.Book.{Edit, merges, Book, begun, reply, turn, book}
 
--- a call: the edit that it asks for, given its output area's length; that area before and after it; and its reply
+-- clause 6.1, a call: the edit that it asks for, given its output area's length; that area before and after it; and its reply
 pub record Call : Type 0 where
   pub asked : ℕ → Edit
   pub before : List ℕ
@@ -31,12 +31,12 @@ pub record Promised (f : List ℕ) (c : Call) : Type 0 where
   pub says : c .told ≡ counted (reply f (edit c))
   pub leaves : c .after ≡ written (reply f (edit c)) (c .before)
 
--- the file that the next call gets: "the bytes which the last accepted edit wrote", else the one that this call got
+-- clause 6.2: the file that the next call gets is what this one wrote, if it answered, else the one that this call got
 abbrev pub handed : List ℕ → Reply ℕ → List ℕ → List ℕ
 handed f (answers count) out = take count out
 handed f (refuses k p) out = f
 
--- the calls that begin with the file f and leave the file last, each of which keeps its promise
+-- clause 6.2: the calls that begin with the file f and leave the file last, each of which keeps its promise
 pub data Calls : List ℕ → List Call → List ℕ → Type 0 where
   ended : {f : List ℕ} → Calls f [] f
   called : {f last : List ℕ} {c : Call} {l : List Call} → Promised f c → Calls (handed f (c .told) (c .after)) l last → Calls f (c ∷ l) last
@@ -46,13 +46,13 @@ unfoldable pub Each : (List ℕ → Call → Type 0) → List ℕ → List Call 
 Each P f [] = Unit
 Each P f (c ∷ l) = P f c × Each P (handed f (c .told) (c .after)) l
 
--- unlike: a merge of two different states of the case in f is refused by row 10 exactly if no bisimulation of that case relates the two
+-- clause 4.7, of a call that gets the file f: told refusal 10 if no bisimulation of that case relates the two, and only then
 abbrev pub UnlikeTold : List ℕ → Call → Type 0
 UnlikeTold f c =
     (s t room : ℕ) → edit c ≡ merges s t room → s < length (read f .labels) → t < length (read f .labels) → (s ≡ t → ⊥)
     → (c .told ≡ refuses 10 0) ↔ ((R : ℕ → ℕ → Bool) → T (bisimulation (table (read f)) R) → T (R s t) → ⊥)
 
--- the replies of the plain book: "the reply is the new file's count of bytes"
+-- clauses 6.5 and 6.6: the replies of the plain book
 unfoldable pub replies : Book → List Edit → List (Reply ℕ)
 replies b [] = []
 replies b (e ∷ l) = counted (reply (b .file) e) ∷ replies (turn b e) l
@@ -66,12 +66,12 @@ abbrev pub inAnswer : Reply Verdict → ℕ → Bool
 inAnswer (answers v) s = has (v .set) s
 inAnswer (refuses k p) s = false
 
--- "A state holds if it is in judging's answer on the set of all states", judged with so many words
+-- clause 3.4: state s holds, judged with so many words
 unfoldable pub holds : List ℕ → ℕ → ℕ → Bool
 holds f words s = inAnswer (judging f (allStates (read f)) words) s
 
--- demand 3, "one claim about the whole list": file and replies are the plain book's, "unlike" is told where no bisimulation relates the two, the last file
--- is accepted, and a state of the first case holds exactly if the state standing for it holds in the last, with work area enough at both ends
+-- clause 6.7, demand 3, of the list as a whole: file and replies are the plain book's, unlike is told as it must be, the last file is accepted, and a state of
+-- the first case holds in it exactly if the state that stands for it holds in the last, with work area enough at both ends
 pub record Kept (first : List ℕ) (l : List Call) (last : List ℕ) : Type 0 where
   pub file : book (begun first) (map edit l) .file ≡ last
   pub told : replies (begun first) (map edit l) ≡ map (λ (c : Call). c .told) l

@@ -1,1 +1,1 @@
-// Document 01's definitions of a case, its file and the entries' replies: specs/. Theorems on them: proofs/. No code.
+// A case, its file and the entries' replies, as docs/SPECIFICATION.md has them: specs/. Theorems on them: proofs/. No code.

@@ -1,4 +1,4 @@
--- What the readers of a file answer: a number or a triple of the case as data, with its range; and the nodes' free variables.
+-- What the readers of a file answer: a number or a triple of the case as data, with its range; and the nodes' free variables (clause 1.10).
 use Prim.Native.Nat.{ℕ, _<_}
 use mathlib.Core.List.{List}
 use mathlib.Core.Path.{_≡_}

@@ -1,4 +1,4 @@
-// Reading the parts of a case from any bytes, and the free variables of its nodes. Document 01, "The case file".
+// Reading the parts of a case from any bytes, and the free variables of its nodes: docs/SPECIFICATION.md, section 1.
 mod bytes;
 mod frees;
 mod parts;

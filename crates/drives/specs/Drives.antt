@@ -1,5 +1,5 @@
--- The starred drives of document 01, "Drives to try", as one table, and what each of them claims.
--- A set is a number, "bit i is state i": {3, 7} is 8 + 128 = 136, {3, 6} is 72, and all of n states is 2 ^ n - 1. The drives without a star are tests.
+-- The starred drives of docs/SPECIFICATION.md, clause 10.1, as one table, and what each of them claims.
+-- A set is a number: {3, 7} is 8 + 128 = 136, {3, 6} is 72, and all of n states is 2 ^ n - 1. The drives without a star are tests.
 use mathlib.Core.Path.{_≡_}
 use mathlib.Core.List.{List, [], _∷_}
 use Prim.Native.Nat.{ℕ}
@@ -11,7 +11,7 @@ use Rattle.case_model.specs.Rows.{sound, refusals}
 pub record Drive : Type 0 where
   -- the bytes of the case file: pairs, labels, steps, nodes, root
   pub file : List ℕ
-  -- its rounds; none listed where document 01 says none. "It is 0 where the root is no binder."
+  -- its rounds, if the drive claims any; clause 2.11 has 0 for a root that is no binder
   pub rounds : List ℕ
   -- set, and the rule's value there
   pub values : List (ℕ × ℕ)
@@ -35,7 +35,7 @@ Right d = Shows d (read (d .file))
 
 unfoldable pub drives : List Drive
 drives =
-    -- Case F, rule μY.⟨b⟩ or ⟨a⟩;νZ.Y;Z;Y. "★ F on all: {0, 1}. ★ F on the empty set: {0}." Its print: "rounds 2"
+    -- case F, the rule μY.⟨1⟩ or ⟨0⟩;νZ.Y;Z;Y, after 2 rounds: {0, 1} of all states, {0} of none
     record {
       file =
           12 ∷ 0 ∷ 2 ∷ 0 ∷ 14 ∷ 0 ∷ 6 ∷ 0 ∷ 20 ∷ 0 ∷ 31 ∷ 0
@@ -47,8 +47,8 @@ drives =
       values = (3, 3) ∷ (0, 1) ∷ [];
       approximants = [];
     } ∷
-    -- "★ Two wheels: .. Rule μZ.(⟨1⟩ and ⟨2⟩) or Z;⟨0⟩. On {3, 7}: {0}, which approximant 11 lacks and 12 has. Rounds 12 with 8 states.
-    -- On {3, 6}: {0}. On the empty set: empty."
+    -- μZ.(⟨1⟩ and ⟨2⟩) or Z;⟨0⟩ over the wheels 1, 2, 3 and 4, 5, 6, 7, after 12 rounds: {0} of {3, 7} and of {3, 6}, nothing of the empty set. State 0 is
+    -- in approximant 12 at {3, 7} and not in approximant 11
     record {
       file =
           12 ∷ 0 ∷ 8 ∷ 0 ∷ 20 ∷ 0 ∷ 27 ∷ 0 ∷ 47 ∷ 0 ∷ 25 ∷ 0
@@ -60,7 +60,7 @@ drives =
       values = (136, 1) ∷ (72, 1) ∷ (0, 0) ∷ [];
       approximants = (11, 136, 0) ∷ (12, 136, 1) ∷ [];
     } ∷
-    -- "★ Document 004, example 4 ..: νZ.μY.(⟨a⟩;Z) and ([b];(Y or τ);⟨b⟩), with 0 -a- 0, 0 -b- 1, 1 -b- 0; on all: {0}." Here a = 0, b = 1, Z = 0, Y = 1
+    -- example 4 of document 004, νZ.μY.(⟨0⟩;Z) and ([1];(Y or τ);⟨1⟩), where 0 steps to itself by 0, and 0 and 1 to each other by 1: {0} of all states
     record {
       file =
           12 ∷ 0 ∷ 2 ∷ 0 ∷ 14 ∷ 0 ∷ 9 ∷ 0 ∷ 23 ∷ 0 ∷ 40 ∷ 0
@@ -72,7 +72,7 @@ drives =
       values = (3, 1) ∷ [];
       approximants = [];
     } ∷
-    -- "★ One state, no steps, on the empty set: [0] gives {0}"
+    -- [0] of the empty set, where a single state has no step: {0}
     record {
       file =
           12 ∷ 0 ∷ 1 ∷ 0 ∷ 13 ∷ 0 ∷ 0 ∷ 0 ∷ 13 ∷ 0 ∷ 4 ∷ 0
@@ -83,7 +83,7 @@ drives =
       values = (0, 1) ∷ [];
       approximants = [];
     } ∷
-    -- "★ ⟨0⟩ gives the empty set"
+    -- ⟨0⟩ of the same: nothing
     record {
       file =
           12 ∷ 0 ∷ 1 ∷ 0 ∷ 13 ∷ 0 ∷ 0 ∷ 0 ∷ 13 ∷ 0 ∷ 4 ∷ 0
@@ -94,7 +94,7 @@ drives =
       values = (0, 0) ∷ [];
       approximants = [];
     } ∷
-    -- "★ τ gives the empty set."
+    -- τ of the same: nothing
     record {
       file =
           12 ∷ 0 ∷ 1 ∷ 0 ∷ 13 ∷ 0 ∷ 0 ∷ 0 ∷ 13 ∷ 0 ∷ 4 ∷ 0
@@ -105,7 +105,7 @@ drives =
       values = (0, 0) ∷ [];
       approximants = [];
     } ∷
-    -- "★ μZ.Z: empty, rounds 0." One state, both sets
+    -- μZ.Z, of both sets of one state: nothing, after 0 rounds
     record {
       file =
           12 ∷ 0 ∷ 1 ∷ 0 ∷ 13 ∷ 0 ∷ 0 ∷ 0 ∷ 13 ∷ 0 ∷ 7 ∷ 0
@@ -116,7 +116,7 @@ drives =
       values = (0, 0) ∷ (1, 0) ∷ [];
       approximants = [];
     } ∷
-    -- "★ νZ.Z: all, rounds 0." One state, both sets
+    -- νZ.Z, likewise: all states, after 0 rounds
     record {
       file =
           12 ∷ 0 ∷ 1 ∷ 0 ∷ 13 ∷ 0 ∷ 0 ∷ 0 ∷ 13 ∷ 0 ∷ 7 ∷ 0
@@ -127,7 +127,7 @@ drives =
       values = (0, 1) ∷ (1, 1) ∷ [];
       approximants = [];
     } ∷
-    -- "★ Steps (0,0,1), (0,0,2); 1 has proposition 0, 2 has proposition 1. ⟨0⟩;(p0 and p1): empty." On all
+    -- ⟨0⟩;(p0 and p1), where 0 steps to 1, which has p0, and to 2, which has p1: nothing of all states
     record {
       file =
           12 ∷ 0 ∷ 3 ∷ 0 ∷ 15 ∷ 0 ∷ 6 ∷ 0 ∷ 21 ∷ 0 ∷ 16 ∷ 0
@@ -139,7 +139,7 @@ drives =
       values = (7, 0) ∷ [];
       approximants = [];
     } ∷
-    -- "★ (⟨0⟩;p0) and (⟨0⟩;p1): {0}." The same table, on all
+    -- (⟨0⟩;p0) and (⟨0⟩;p1) on that table: {0} of all states
     record {
       file =
           12 ∷ 0 ∷ 3 ∷ 0 ∷ 15 ∷ 0 ∷ 6 ∷ 0 ∷ 21 ∷ 0 ∷ 19 ∷ 0

@@ -71,17 +71,17 @@ module _ (L : Table) where
 
   -- ---- the laws
 
-  -- τ;A to A
+  -- law 1: τ;A = A
   pub law-1 : (p : Formula) → Same L (op chop (atom tau) p) p
   unfolding mean meanAtom
   law-1 p ρ R x i = refl
 
-  -- A;τ to A
+  -- law 2: A;τ = A
   pub law-2 : (p : Formula) → Same L (op chop p (atom tau)) p
   unfolding mean meanAtom
   law-2 p ρ R x i = refl
 
-  -- q;A to q
+  -- law 3: q;A = q
   pub law-3 : (a : Atom) → Constant a → (p : Formula) → Same L (op chop (atom a) p) (atom a)
   unfolding mean meanAtom
   law-3 top c p ρ R x i = refl
@@ -92,12 +92,12 @@ module _ (L : Table) where
   law-3 (dia a) c p ρ R x i = absurd c
   law-3 (box a) c p ρ R x i = absurd c
 
-  -- (A;B);C to A;(B;C); from right to left it is law 5
+  -- law 4: (A;B);C = A;(B;C); from right to left it is law 5
   pub law-4 : (p q r : Formula) → Same L (op chop (op chop p q) r) (op chop p (op chop q r))
   unfolding mean
   law-4 p q r ρ R x i = refl
 
-  -- (A or B);C to (A;C) or (B;C); for and it is law 7
+  -- law 6: (A or B);C = (A;C) or (B;C); for and it is law 7
   pub law-6 : (o : Op) → Pointwise o → (p q r : Formula) → Same L (op chop (op o p q) r) (op o (op chop p r) (op chop q r))
   unfolding mean
   law-6 or c p q r ρ R x i = refl
@@ -108,14 +108,14 @@ module _ (L : Table) where
   self : (c : Bool → Bool → Bool) → ((b : Bool) → c b b ≡ b) → (n x : ℕ) → x < 2 ^ n → setOf n (λ s. c (has x s) (has x s)) ≡ x
   self c e n x i = setOf-ext n _ _ (λ s k. e (has x s)) ∙ setOf-has n x i
 
-  -- A or A to A; likewise and
+  -- law 8: A or A = A; so with and
   pub law-8 : (o : Op) → Pointwise o → (p : Formula) → Same L (op o p p) p
   unfolding mean
   law-8 or c p ρ R x i = self either either-self (L .n) (mean L p ρ x) (mean-small L p ρ R x i)
   law-8 and c p ρ R x i = self both both-self (L .n) (mean L p ρ x) (mean-small L p ρ R x i)
   law-8 chop c p ρ R x i = absurd c
 
-  -- A or B to B or A; likewise and
+  -- law 9: A or B = B or A; so with and
   pub law-9 : (o : Op) → Pointwise o → (p q : Formula) → Same L (op o p q) (op o q p)
   unfolding mean
   law-9 or c p q ρ R x i = setOf-ext (L .n) _ _ (λ s k. either-swap (has (mean L p ρ x) s) (has (mean L q ρ x) s))

@@ -1,11 +1,11 @@
--- State tables, rules as trees, and what a rule means. Document 01, "Meaning", sentence by sentence.
+-- State tables, rules as trees, and what a rule means: docs/SPECIFICATION.md, section 2.
 use mathlib.Core.Bool.{Bool, true, false, not, cond}
 use Prim.Native.Nat.{ℕ}
 use lib.Dec.{eqb}
 use Rattle.flc.specs.Sets.{both, either, implies, forAll, forSome, has, setOf}
 use Rattle.flc.specs.Functions.{Fun, meet, join}
 
--- n states, the label byte of each, and the transitions (from, action, to)
+-- clauses 1.4 and 1.5: n states, the label byte of each, and the transitions by state left, action, state entered
 pub record Table : Type 0 where
   pub n : ℕ
   pub label : ℕ → ℕ
@@ -26,6 +26,7 @@ pub data Formula : Type 0 where
   op : Op → Formula → Formula → Formula
   fix : Bool → ℕ → Formula → Formula
 
+-- clauses 2.2, 2.3, 2.5 and 2.6: what is constant, τ, and the two modalities at the set x
 unfoldable pub meanAtom : Table → Atom → Fun
 meanAtom L top x = setOf (L .n) (λ s. true)
 meanAtom L bottom x = setOf (L .n) (λ s. false)
@@ -35,7 +36,7 @@ meanAtom L tau x = x
 meanAtom L (dia a) x = setOf (L .n) (λ s. forSome (L .n) (λ t. both (L .step s a t) (has x t)))
 meanAtom L (box a) x = setOf (L .n) (λ s. forAll (L .n) (λ t. implies (L .step s a t) (has x t)))
 
--- "given monotone functions for its free variables"
+-- clause 2.1: a function for each variable
 abbrev pub Env : Type 0
 Env = ℕ → Fun
 
@@ -43,6 +44,7 @@ Env = ℕ → Fun
 unfoldable pub put : Env → ℕ → Fun → Env
 put ρ v f w = cond (eqb w v) f (ρ w)
 
+-- clauses 2.3, 2.4, 2.8 and 2.9: or, and, chop and the two fixed points at the set x
 unfoldable pub mean : Table → Formula → Env → Fun
 mean L (atom a) ρ x = meanAtom L a x
 mean L (var v) ρ x = ρ v x
@@ -56,7 +58,7 @@ mean L (fix false v p) ρ x = join (L .n) (λ f. mean L p (put ρ v f)) x
 unfoldable pub none : Env
 none v x = 0
 
--- the variable w is free in the rule
+-- clause 1.10: the variable w occurs in the rule where no binder of w is above it
 unfoldable pub free : ℕ → Formula → Bool
 free w (atom a) = false
 free w (var v) = eqb w v

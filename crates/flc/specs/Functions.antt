@@ -1,4 +1,4 @@
--- Functions on sets; least and greatest as Knaster and Tarski define them; approximants and rounds. Document 01, "Meaning".
+-- Functions on sets; least and greatest as Knaster and Tarski define them; approximants and rounds: docs/SPECIFICATION.md, section 2.
 -- The sets of n states are the numbers below 2 ^ n. The flag d: true for the least (μ), false for the greatest (ν).
 use mathlib.Core.Bool.{Bool, not}
 use Prim.Native.Nat.{ℕ, zero, suc, _*_, _^_}
@@ -11,14 +11,15 @@ Fun = ℕ → ℕ
 unfoldable pub contained : ℕ → ℕ → ℕ → Bool
 contained n x y = forAll n (λ s. implies (has x s) (has y s))
 
--- "Below means contained at every X."
+-- clause 2.7: f is below g
 unfoldable pub below : ℕ → Fun → Fun → Bool
 below n f g = forAll (2 ^ n) (λ x. contained n (f x) (g x))
 
+-- clause 2.1: of a greater set the function yields a greater one
 unfoldable pub monotone : ℕ → Fun → Bool
 monotone n f = forAll (2 ^ n) (λ x. forAll (2 ^ n) (λ y. implies (contained n x y) (contained n (f x) (f y))))
 
--- "equals .. as functions, at every X"
+-- clause 2.11: f and g yield the same at all sets
 unfoldable pub agree : ℕ → Fun → Fun → Bool
 agree n f g = forAll (2 ^ n) (λ x. eqb (f x) (g x))
 
@@ -34,21 +35,21 @@ forAllFun (suc k) b p = forAll b (λ v. forAllFun k b (λ f. p (cons v f)))
 unfoldable pub forSomeFun : ℕ → ℕ → (Fun → Bool) → Bool
 forSomeFun k b p = not (forAllFun k b (λ f. not (p f)))
 
--- "μ is the meet of all monotone f with body(f) below f."
+-- clause 2.8: s is in the least fixed point at x, being in all those f
 unfoldable pub meet : ℕ → (Fun → Fun) → Fun
 meet n body x =
     setOf n (λ s. forAllFun (2 ^ n) (2 ^ n) (λ f. implies (both (monotone n f) (below n (body f) f)) (has (f x) s)))
 
--- "ν is the join of all monotone f below body(f)."
+-- clause 2.9: s is in the greatest fixed point at x, being in one of those f
 unfoldable pub join : ℕ → (Fun → Fun) → Fun
 join n body x =
     setOf n (λ s. forSomeFun (2 ^ n) (2 ^ n) (λ f. both (both (monotone n f) (below n f (body f))) (has (f x) s)))
 
--- "Approximant 0 is the empty set everywhere for μ, all states everywhere for ν; approximant k+1 is the body with approximant k for the variable."
+-- clause 2.10: begin with no state (μ) or with all (ν), then apply the body
 unfoldable pub approximant : Bool → ℕ → (Fun → Fun) → ℕ → Fun
 approximant d n body zero x = setOf n (λ s. not d)
 approximant d n body (suc k) x = body (approximant d n body k) x
 
--- "Rounds is the least k whose approximant equals approximant k+1 as functions, at every X. .. It is at most n × 2^n."
+-- clauses 2.11 and 2.12: the first approximant that the next one equals, looked for up to n × 2^n
 unfoldable pub rounds : Bool → ℕ → (Fun → Fun) → ℕ
 rounds d n body = first (λ k. agree n (approximant d n body k) (approximant d n body (suc k))) 0 (n * 2 ^ n)

@@ -1,5 +1,4 @@
--- A rule as numbered nodes, each one layer of a tree, and the tree that a node stands for.
--- Document 01, "The case file": "A node names only nodes of lower number, so sharing is allowed and a circle is not."
+-- A rule as numbered nodes, each one layer of a tree, and the tree that a node stands for: docs/SPECIFICATION.md, clause 1.8.
 use mathlib.Core.Bool.{Bool, cond}
 use Prim.Native.Nat.{ℕ, zero, suc}
 use lib.Dec.{eqb}
@@ -18,7 +17,7 @@ tree (leaf p) φ = p
 tree (two o a b) φ = op o (φ a) (φ b)
 tree (bind d v b) φ = fix d v (φ b)
 
--- the trees of the nodes below j: no other can be named
+-- clause 1.8: the trees of the nodes below j, the only ones that node j can name
 unfoldable pub lower : (ℕ → Node) → ℕ → ℕ → Formula
 lower N zero i = atom bottom
 lower N (suc j) i = cond (eqb i j) (tree (N j) (lower N j)) (lower N j i)
@@ -26,13 +25,13 @@ lower N (suc j) i = cond (eqb i j) (tree (N j) (lower N j)) (lower N j i)
 unfoldable pub formulaAt : (ℕ → Node) → ℕ → Formula
 formulaAt N j = tree (N j) (lower N j)
 
--- the rounds of the rule of a node. "It is 0 where the root is no binder."
+-- clause 2.11: the rounds of the rule of a node, 0 unless it is a binder
 unfoldable pub roundsOf : Table → Node → (ℕ → Formula) → ℕ
 roundsOf L (leaf p) φ = 0
 roundsOf L (two o a b) φ = 0
 roundsOf L (bind d v b) φ = rounds d (L .n) (λ f. mean L (φ b) (put none v f))
 
--- approximant k of the rule of a node; of one that is no binder, its meaning
+-- clause 2.10: approximant k of the rule of a node; of one that is no binder, its meaning
 unfoldable pub approximantOf : Table → Node → (ℕ → Formula) → ℕ → Fun
 approximantOf L (leaf p) φ k = mean L p none
 approximantOf L (two o a b) φ k = mean L (op o (φ a) (φ b)) none

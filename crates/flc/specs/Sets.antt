@@ -1,4 +1,4 @@
--- Tests over finitely many numbers, and sets of states as numbers. Document 01, "Judging": "bit i is state i"; here of any width n.
+-- Tests over finitely many numbers, and sets of states as numbers, of any width n: docs/SPECIFICATION.md, clause 3.1.
 -- The connectives are the library's, under names that stay shut in proofs.
 use mathlib.Core.Bool.{Bool, true, false, _&&_, _||_, not, cond}
 use Prim.Native.Nat.{ℕ, zero, suc, _+_, _*_, _/_, _%_, _^_}
@@ -28,7 +28,7 @@ unfoldable pub first : (ℕ → Bool) → ℕ → ℕ → ℕ
 first p i zero = i
 first p i (suc k) = cond (p i) i (first p (suc i) k)
 
--- state s is in the set x
+-- clause 3.1: state s is in the set x if bit s of x is 1
 unfoldable pub has : ℕ → ℕ → Bool
 has x s = eqb (x / 2 ^ s % 2) 1
 

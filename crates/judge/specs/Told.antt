@@ -1,4 +1,4 @@
--- The paper's values for each case of the enum that judging answers with.
+-- The number and values that docs/SPECIFICATION.md, clauses 3.2 and 7.1, has for each case of the enum that judging answers with.
 use Rattle.case_file.specs.Told.{number}
 use Rattle.case_model.specs.Judging as model
 use Rattle.case_model.specs.Replies.{Reply, answers, refuses}

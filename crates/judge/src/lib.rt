@@ -1,4 +1,4 @@
-// Judging: the root's function at a set, and its rounds, by tables of 2^n words in the lent work area. Document 01, "Judging".
+// Judging: the root's function at a set, and its rounds, by tables of 2^n words in the lent work area. docs/SPECIFICATION.md, section 3.
 mod entry;
 mod nodes;
 mod plan;

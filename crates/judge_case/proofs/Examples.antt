@@ -1,4 +1,4 @@
--- Document 01's own print of case F, from the drive that is proved of it; of F with an open root, by computation; and of any input that is too long.
+-- The print of case F (clause 9.5), from the drive that is proved of it; of F with an open root, by computation; and of any input that is too long.
 use Prim.Native.Nat.{ℕ, _*_, _<_}
 use mathlib.Core.List.{List, [], _∷_}
 use mathlib.Core.Path.{_≡_, refl, ap}
@@ -50,7 +50,7 @@ pub print-7 : page (caseF 4) 32768 ≡ 114 ∷ 101 ∷ 102 ∷ 117 ∷ 115 ∷ 1
 unfolding printed numeral first refusals pairsHold chained section listOf lowest forAll forSome both either rootClosed rule formulaAt lower nodeAt nodeOf kinds free
 print-7 = refused-page (caseF 4) 32768 7 0 refl
 
--- "Input longer than the longest case gives 1."
+-- clause 9.4
 pub print-longer : (f : List ℕ) (words : ℕ) → longest < length f → page f words ≡ 114 ∷ 101 ∷ 102 ∷ 117 ∷ 115 ∷ 101 ∷ 100 ∷ 32 ∷ 49 ∷ 32 ∷ 48 ∷ 10 ∷ []
 unfolding printed numeral first refusals pairsHold
 print-longer f words h = refused-page f words 1 0 (rw (le-leb (4 * sections) (length f) (omega arith), lt-leb (length f) longest h))

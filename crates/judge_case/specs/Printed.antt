@@ -1,4 +1,4 @@
--- What the program prints, as bytes. Document 01, "Case F and its print": "prints n, rounds, then each state with yes or no".
+-- What the program prints, as bytes: docs/SPECIFICATION.md, section 9.
 use Prim.Native.Nat.{ℕ, zero, suc, _+_, _^_}
 use mathlib.Core.Bool.{cond}
 use mathlib.Core.List.{List, [], _∷_, _++_}
@@ -43,17 +43,17 @@ numeral n = digits 10 (first (λ k. ltb n (10 ^ k)) 1 19) n
 abbrev pub line : List ℕ → ℕ → List ℕ
 line what n = what ++ (numeral n ++ end)
 
--- "each state with yes or no": the states below n, of which those in x hold
+-- clause 9.2: the lines of the states below n, of which those in x hold
 unfoldable pub lines : ℕ → ℕ → List ℕ
 lines zero x = []
 lines (suc s) x = lines s x ++ (numeral s ++ cond (has x s) yesText noText)
 
--- "A refusal prints one line only, as `refused 7 0`: number, then place."
+-- clauses 9.2 and 9.3: the lines of a verdict on n states, or the one line of a refusal
 unfoldable pub printed : ℕ → Reply Verdict → List ℕ
 printed n (answers v) = line states n ++ (line rounds (v .rounds) ++ lines n (v .set))
 printed n (refuses k p) = refused ++ (numeral k ++ line space p)
 
--- "judges on all states"
+-- clause 9.1: the print of a file, judged on all its states with so many words
 unfoldable pub page : List ℕ → ℕ → List ℕ
 page f words = printed (length (read f .labels)) (judging f (allStates (read f)) words)
 

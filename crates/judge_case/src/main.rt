@@ -1,4 +1,4 @@
-// Judges one case from standard input on all its states, and prints which of them keep the rule, or the refusal.
+// Judges one case from standard input on all its states, and prints which of them hold, or the refusal.
 ghost use mathlib.Core.Bool.{true, cond};
 ghost use mathlib.Core.List.{_++_};
 ghost use mathlib.Core.Path.{_≡_};

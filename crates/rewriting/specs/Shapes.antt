@@ -1,4 +1,4 @@
--- What the code's shapes stand for: the changes of "The nine laws".
+-- What the code's shapes stand for: the changes of the nine laws (docs/SPECIFICATION.md, section 5).
 use Prim.Native.Nat.{ℕ, suc, _≤_}
 use mathlib.Core.Bool.{cond}
 use mathlib.Core.List.{List, [], _∷_}

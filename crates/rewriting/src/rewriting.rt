@@ -31,7 +31,7 @@ fn rewrite_accepted(file: &[u8], law: usize, node: usize, out: &mut [u8]) -> Wri
         return refused(Reason::Shape);
     }
     if Case::NODES < nodes {
-        return refused(Reason::Nodes);
+        return refused(Reason::TooManyNodes);
     }
     let rule = section_offset(file, 2);
     if out.len() < rule + 3 * nodes + 1 {

@@ -1,4 +1,5 @@
-//! The cases of the folder `cases`, as data: document 01's "Drives to try", and a label printer's.
+//! The cases of the folder `cases`, as data: the drives of docs/SPECIFICATION.md, 10.1, and a label
+//! printer's.
 use crate::printer;
 use plain::{Case, Triple};
 use std::fs;
@@ -40,7 +41,7 @@ pub fn drives() -> Vec<(&'static str, Case)> {
     ]
 }
 
-/// Case F: μY.⟨b⟩ or ⟨a⟩;νZ.Y;Z;Y with a = 0, b = 1, Y = 0, Z = 1.
+/// Case F: μY.⟨1⟩ or ⟨0⟩;νZ.Y;Z;Y, where Y is variable 0 and Z is variable 1.
 pub fn f() -> Case {
     let nodes = [
         (4, 0, 0),

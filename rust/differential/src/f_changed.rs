@@ -1,4 +1,4 @@
-//! Case F with a change: document 01's examples of files that are turned back.
+//! Case F with a change: an example of each refusal of a file.
 use crate::drives;
 use plain::{write, Case, Refusal};
 

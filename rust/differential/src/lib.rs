@@ -13,6 +13,7 @@ pub mod formulas;
 pub mod generate;
 pub mod judging;
 pub mod measure;
+pub mod printed;
 pub mod printer;
 pub mod replies;
 pub mod rng;

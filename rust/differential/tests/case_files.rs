@@ -3,7 +3,7 @@ use differential::drives::{drives, folder, read};
 use differential::tally::compare;
 use std::fs;
 
-/// The 51 bytes that document 01 prints.
+/// The 51 bytes of case F, as README has them.
 const F: [u8; 51] = [
     12, 0, 2, 0, 14, 0, 6, 0, 20, 0, 31, 0, // pairs
     0, 0, // labels

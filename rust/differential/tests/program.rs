@@ -3,18 +3,14 @@ use differential::damage::expect_refusals;
 use differential::drives::{drives, longest, read, wheels};
 use differential::formulas::{self, Bounds};
 use differential::generate;
-use differential::judging::all_states;
+use differential::printed::{wanted, WORDS};
 use differential::rng::Rng;
-use plain::{judge, vet, write, Case, Refusal, Triple};
-use std::fmt::Write as _;
+use plain::{vet, write, Case, Triple};
 use std::io::{ErrorKind, Write};
 use std::path::Path;
 use std::process::{Command, Stdio};
 use std::thread::sleep;
 use std::time::Duration;
-
-/// The program's work area, in words.
-const WORDS: usize = 32_768;
 
 /// What the program prints when these pieces come in on standard input, one after the other.
 fn printed(pieces: &[&[u8]]) -> String {
@@ -42,22 +38,6 @@ fn printed(pieces: &[&[u8]]) -> String {
     let output = child.wait_with_output().expect("the program's output");
     assert!(output.status.code().is_some(), "ended by a signal");
     String::from_utf8(output.stdout).expect("text")
-}
-
-/// What document 01 wants printed.
-fn wanted(file: &[u8]) -> String {
-    let states = vet(file, 0).map_or(0, |(states, _)| states);
-    match judge(file, all_states(states), WORDS) {
-        Err(Refusal { number, place }) => format!("refused {number} {place}\n"),
-        Ok(verdict) => {
-            let mut print = format!("states {states}\nrounds {}\n", verdict.rounds);
-            for (state, &holds) in verdict.states.iter().enumerate() {
-                let holds = if holds { "yes" } else { "no" };
-                writeln!(print, "{state} {holds}").expect("room in a string");
-            }
-            print
-        }
-    }
 }
 
 fn check(file: &[u8]) -> String {

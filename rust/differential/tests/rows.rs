@@ -1,4 +1,4 @@
-//! Rows 1 to 8 of document 01's table of refusals, by both checkers.
+//! Refusals 1 to 8 (docs/SPECIFICATION.md, section 8), by both checkers.
 use differential::drives;
 use differential::f_changed::{f_with, refused_files};
 use differential::replies::refused;

@@ -22,7 +22,7 @@ impl Entry {
         Entry::Rewrite,
     ];
 
-    /// The rows of document 01's table that the entry gives.
+    /// The refusals that the entry gives (docs/SPECIFICATION.md, 7.4).
     pub fn rows(self) -> Vec<usize> {
         let own: &[usize] = match self {
             Entry::Vet | Entry::Open => &[8],

@@ -1,10 +1,11 @@
-//! Judges a case on all its states, merges its alike states, and shows that verdicts are kept:
+//! Judges a case on all its states, merges those that are alike, and shows that verdicts stay:
 //!
 //! `cargo run --release --example merge_alike -- CASE [SMALLER]`
 //!
 //! `SMALLER`, if it is named, is the file to which the smaller case is written.
 use hoidrul::{Refusal, Verdict, LABELS, LONGEST};
-use std::error::Error;
+use std::fmt::Display;
+use std::path::{Path, PathBuf};
 use std::process::ExitCode;
 use std::{env, fs};
 
@@ -18,13 +19,27 @@ fn main() -> ExitCode {
     }
 }
 
-fn run() -> Result<(), Box<dyn Error>> {
-    let mut paths = env::args_os().skip(1);
+fn run() -> Result<(), String> {
+    let mut paths = env::args_os().skip(1).map(PathBuf::from);
     let path = paths.next().ok_or("usage: merge_alike CASE [SMALLER]")?;
-    let file = fs::read(path)?;
-    let classes = classes(&file)?;
-    let smaller = merge_alike(&file, &classes)?;
-    let (before, after) = (judge(&file)?, judge(&smaller)?);
+    let file = fs::read(&path).map_err(|error| about(&path, error))?;
+    let smaller = show(&file).map_err(|refusal| about(&path, refusal))?;
+    if let Some(path) = paths.next() {
+        fs::write(&path, smaller).map_err(|error| about(&path, error))?;
+    }
+    Ok(())
+}
+
+/// Which file an error is about.
+fn about(path: &Path, error: impl Display) -> String {
+    format!("{}: {error}", path.display())
+}
+
+/// Prints the verdicts before and after, and returns the smaller case.
+fn show(file: &[u8]) -> Result<Vec<u8>, Refusal> {
+    let classes = classes(file)?;
+    let smaller = merge_alike(file, &classes)?;
+    let (before, after) = (judge(file)?, judge(&smaller)?);
 
     let kept = classes.iter().zip(0..).filter(|&(&lowest, s)| lowest == s);
     println!("states {}, merged {}", classes.len(), kept.count());
@@ -34,10 +49,7 @@ fn run() -> Result<(), Box<dyn Error>> {
         let (holds, still) = (before.holds(state), after.holds(stands));
         println!("{state} {}, as {stands} {}", word(holds), word(still));
     }
-    if let Some(path) = paths.next() {
-        fs::write(path, smaller)?;
-    }
-    Ok(())
+    Ok(smaller)
 }
 
 /// The verdict on the set of all states.
@@ -47,7 +59,7 @@ fn judge(file: &[u8]) -> Result<Verdict, Refusal> {
     hoidrul::judge(file, all, &mut work)
 }
 
-/// For each state the lowest state alike to it.
+/// The classes: at each state, the lowest that is alike to it.
 fn classes(file: &[u8]) -> Result<Vec<u8>, Refusal> {
     let mut classes = vec![0; hoidrul::vet(file, LABELS)?.states];
     hoidrul::classes(file, &mut classes)?;

@@ -5,12 +5,12 @@
 use crate::refusal::answer;
 use crate::{ffi, Refusal};
 
-/// Writes for each state the lowest state alike to it, one byte each, and answers the count of
-/// bytes, which is that of states.
+/// Writes one byte a state, the lowest that is alike to it, and answers the count of bytes, which
+/// is that of states.
 ///
-/// Two states are alike if some bisimulation relates them: it relates states with equal labels
-/// only, and each step of either is met by one of the other, with the same action and into a
-/// related state.
+/// States are alike where a bisimulation relates them. That is a relation of states with equal
+/// labels in which each step of either state is met by one of the other, with the same action and
+/// into a related state.
 ///
 /// Refusals: 1 to 7, then 13 for an area shorter than the result.
 ///

@@ -23,6 +23,9 @@ impl Verdict {
 ///
 /// The work area may hold anything, and holds zero everywhere after an answer.
 ///
+/// This can take hours: a binder takes up to n × 2^n rounds, and nested binders of alternating
+/// kinds multiply theirs. Only ending the process stops a call.
+///
 /// Refusals: 1 to 7, then 8 for a set beyond the case, then 9 for a work area of fewer words than
 /// [`work_area`] tells.
 ///

@@ -7,13 +7,15 @@
 //! |---|---|
 //! | [`vet`] | how many states and nodes the case has |
 //! | [`open`] | a section, as that part of the file |
-//! | [`judge`] | which states keep the rule, and after how many rounds |
+//! | [`judge`] | which states hold, and after how many rounds |
 //! | [`classes`] | which states are alike |
 //! | [`merge`] | the case with two alike states made one |
 //! | [`rewrite`] | the case with its rule rewritten by one of nine laws |
 //!
 //! Each takes any bytes and any numbers, always ends, and answers or returns a [`Refusal`]. The
-//! caller lends every area that is written, and a refusal leaves it unchanged.
+//! caller lends every area that is written, and a refusal leaves it unchanged. Entries keep no
+//! state, so threads may call at once; a thread needs [`STACK`] bytes of stack. docs/SPECIFICATION.md
+//! says what they answer in full.
 //!
 //! ```
 //! // One state, no steps, the rule τ.
@@ -24,6 +26,16 @@
 //! assert!(verdict.holds(0));
 //! # Ok::<(), hoidrul::Refusal>(())
 //! ```
+//!
+//! # The archive
+//!
+//! The entries are those of the proved archive libhoidrul.a, which `rt staticlib hoidrul` makes. It
+//! is linked from target/staticlib of the repository, or from the folder that the environment
+//! variable `HOIDRUL_LIB_DIR` names at build time: an absolute path, or one from this package's
+//! folder. Set to nothing, it serves `cargo check` and `cargo doc` where there is no archive.
+//!
+//! Take the binding and the archive of one version. A call panics if a newer archive refuses it
+//! with a number that [`Reason`] does not have.
 #![deny(unsafe_code)]
 #![warn(missing_docs)]
 
@@ -46,3 +58,7 @@ struct Readme;
 
 /// The longest case, in bytes. An output area of this length has room for every result.
 pub const LONGEST: usize = 6_365;
+
+/// Enough stack for a thread that calls, in bytes. [`judge`] takes about 75 KiB of it,
+/// the others about 30. Rust's threads have more unless they are built with less.
+pub const STACK: usize = 128 * 1024;

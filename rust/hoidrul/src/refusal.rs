@@ -1,12 +1,16 @@
-//! Refusals: the rows of document 01's table "Turned back, by number".
+//! Refusals, as docs/SPECIFICATION.md lists them in section 8.
 use std::error::Error;
 use std::fmt;
 
-/// Makes the enum of the table's rows: number, name, the table's words.
+/// Makes the enum of refusals: number, name, words.
 macro_rules! rows {
     ($($number:literal $name:ident $words:literal)*) => {
-        /// Why a call was turned back: a row of the table, shown in the table's words.
+        /// Why a call was refused; shown in the words below.
+        ///
+        /// Later versions have more reasons. A call panics if the archive is of such a version and
+        /// refuses it with a number that is not here.
         #[derive(Clone, Copy, Debug, PartialEq, Eq, PartialOrd, Ord, Hash)]
+        #[non_exhaustive]
         pub enum Reason {
             $(
                 #[doc = concat!(stringify!($number), ": ", $words, ".")]
@@ -15,6 +19,9 @@ macro_rules! rows {
         }
 
         impl Reason {
+            /// All reasons of this version, in rising number.
+            pub const ALL: &'static [Reason] = &[$(Reason::$name),*];
+
             fn numbered(number: u64) -> Option<Reason> {
                 match number {
                     $($number => Some(Reason::$name),)*
@@ -32,22 +39,22 @@ macro_rules! rows {
 }
 
 rows! {
-    1 Pairs "file under 12 or over 6,365 bytes, or pairs break the rule"
-    2 Labels "label section 0 or over 16 long"
-    3 Steps "step section no multiple of 3; a state, action or order wrong"
-    4 Rule "rule length not 3m+1, m 1 to 64, or root not below m"
-    5 Node "kind, range, unused byte not 0, or named node not lower"
-    6 Binder "second binder of a variable"
-    7 Free "root has a free variable"
-    8 Beyond "set, state or section number beyond the case"
-    9 Work "work area too short"
-    10 Unlike "merge of a state with itself, or of states not alike"
-    11 Shape "no such law or node, or the shape isn't there"
-    12 Nodes "rewriting would pass 64 nodes"
-    13 Room "output area shorter than the result"
+    1 Pairs "under 12 or over 6,365 bytes, or the pairs do not lay three sections end to end"
+    2 Labels "no label, or more than 16"
+    3 Steps "the steps end inside a triple, or a triple names no state or action of the case or does not rise"
+    4 Rule "the rule is not 1 to 64 whole nodes and then the number of one of them"
+    5 Node "a node's kind or bytes are out of range, or it names a node that is not below it"
+    6 Binder "a variable is bound a second time"
+    7 Free "a variable is free in the root"
+    8 Beyond "the section, set or state asked for is not in the case"
+    9 Work "the work area is too small"
+    10 Unlike "the two states are one state, or are not alike"
+    11 Shape "there is no law or node of that number, or the law's shape is not there"
+    12 TooManyNodes "the rewritten rule would have more than 64 nodes"
+    13 Room "the output area is too small for the result"
 }
 
-/// The table's words.
+/// The reason's words.
 impl fmt::Display for Reason {
     fn fmt(&self, f: &mut fmt::Formatter<'_>) -> fmt::Result {
         f.write_str(self.words())
@@ -64,12 +71,12 @@ impl fmt::Display for Reason {
 /// assert_eq!(refusal.number(), 1);
 /// assert_eq!(
 ///     refusal.to_string(),
-///     "refused 1 0: file under 12 or over 6,365 bytes, or pairs break the rule"
+///     "refused 1 0: under 12 or over 6,365 bytes, or the pairs do not lay three sections end to end"
 /// );
 /// ```
 #[derive(Clone, Copy, Debug, PartialEq, Eq, Hash)]
 pub struct Refusal {
-    /// The row of the table.
+    /// Why.
     pub reason: Reason,
     /// The triple in [`Reason::Steps`], the node in [`Reason::Node`] and [`Reason::Binder`],
     /// else 0. The lowest there is.
@@ -77,7 +84,7 @@ pub struct Refusal {
 }
 
 impl Refusal {
-    /// The row's number, 1 to 13.
+    /// The reason's number, 1 to 13.
     pub fn number(self) -> u32 {
         self.reason as u32
     }
@@ -96,16 +103,17 @@ impl Error for Refusal {}
 /// Takes a reply of the C boundary apart: bit 63 marks a refusal.
 ///
 /// # Panics
-/// If the number is no row's, which the boundary never gives.
+/// If the number is none of this version's reasons: the archive is newer than the binding.
 pub(crate) fn answer(reply: u64) -> Result<u64, Refusal> {
     if reply >> 63 == 0 {
         return Ok(reply);
     }
-    let reason = Reason::numbered(reply << 1 >> 33);
-    Err(Refusal {
-        reason: reason.expect("a refusal has a number from 1 to 13"),
-        place: reply as u32 as usize,
-    })
+    let number = reply << 1 >> 33;
+    let Some(reason) = Reason::numbered(number) else {
+        panic!("refusal {number} is unknown: libhoidrul.a is newer than its Rust binding");
+    };
+    let place = reply as u32 as usize;
+    Err(Refusal { reason, place })
 }
 
 #[cfg(test)]
@@ -124,9 +132,17 @@ mod tests {
     }
 
     #[test]
-    fn thirteen_rows() {
-        for number in 1..=13 {
-            assert_eq!(Reason::numbered(number).map(|row| row as u64), Some(number));
+    #[should_panic(expected = "refusal 14 is unknown: libhoidrul.a is newer")]
+    fn an_unknown_number() {
+        let _ = answer((1 << 63) + (14 << 32));
+    }
+
+    #[test]
+    fn thirteen_reasons() {
+        let numbers: Vec<u64> = Reason::ALL.iter().map(|&reason| reason as u64).collect();
+        assert_eq!(numbers, Vec::from_iter(1..=13));
+        for &reason in Reason::ALL {
+            assert_eq!(Reason::numbered(reason as u64), Some(reason));
         }
         for number in [0, 14, 0x7fff_ffff] {
             assert_eq!(Reason::numbered(number), None);

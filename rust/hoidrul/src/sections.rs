@@ -9,7 +9,7 @@ pub const STEPS: usize = 1;
 /// The section of the rule: nodes (kind, A, B), then the root's number.
 pub const RULE: usize = 2;
 
-/// What vetting answers: the paper's n and m.
+/// What vetting answers: how many states and nodes there are.
 #[derive(Clone, Copy, Debug, PartialEq, Eq, Hash)]
 pub struct Counts {
     /// n, 1 to 16.
@@ -67,7 +67,7 @@ pub fn vet(file: &[u8], section: usize) -> Result<Counts, Refusal> {
 pub fn open(file: &[u8], section: usize) -> Result<&[u8], Refusal> {
     let part = ffi::open(file, section);
     if part == 0 {
-        // The part is opening's whole reply; vetting tells which refusal it was.
+        // Opening does not say why it refuses, but vetting refuses for the same reason.
         vet(file, section)?;
     }
     let (offset, length) = ((part >> 32) as usize, part as u32 as usize);

@@ -9,7 +9,7 @@ use std::collections::BTreeSet;
 /// Pairs of related states.
 pub type Relation = BTreeSet<(usize, usize)>;
 
-/// Rows 1 to 7 and 13, then for each state the lowest state alike to it.
+/// Refusals 1 to 7 and 13, then a byte for each state: the lowest that is alike to it.
 pub fn classes(file: &[u8], room: usize) -> Result<Vec<u8>, Refusal> {
     let case = parse(file)?;
     in_room(lowest(&alike(&case), case.labels.len()), room)

@@ -1,4 +1,4 @@
-//! The meaning of a rule for one or two states just as document 01 words it: μ and ν go through
+//! The meaning of a rule for one or two states just as it is defined: μ and ν go through
 //! all monotone functions. It shares nothing with the other meaning but the nodes.
 use crate::case::Case;
 use crate::node::Node;

@@ -1,4 +1,4 @@
-//! The plain book of document 01's "Edits in a row".
+//! The plain book (docs/SPECIFICATION.md, section 6).
 use crate::merging::{merge, standing};
 use crate::refusal::Refusal;
 use crate::rewriting::rewrite;

@@ -55,7 +55,7 @@ impl<'a> Scope<'a> {
         function
     }
 
-    /// Document 01's "Meaning", kind by kind.
+    /// What each kind means (docs/SPECIFICATION.md, section 2).
     fn work_out(&mut self, node: Node) -> Function {
         let model = self.model;
         match node {

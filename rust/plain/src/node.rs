@@ -1,4 +1,4 @@
-//! The nodes of a rule: document 01's table of kinds.
+//! The nodes of a rule: the table of kinds (docs/SPECIFICATION.md, 1.7).
 use crate::case::Triple;
 
 /// One node. Named nodes are node numbers.

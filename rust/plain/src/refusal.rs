@@ -1,4 +1,4 @@
-//! Refusals: the rows of document 01's table "Turned back, by number".
+//! Refusals (docs/SPECIFICATION.md, section 8).
 
 /// A row of the table and the place of the fault.
 #[derive(Clone, Copy, Debug, PartialEq, Eq)]

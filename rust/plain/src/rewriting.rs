@@ -1,4 +1,4 @@
-//! Rewriting: document 01's "The nine laws".
+//! Rewriting by the nine laws (docs/SPECIFICATION.md, section 5).
 use crate::case::write;
 use crate::keyed::{before, key, Key, Keyed, Rule};
 use crate::output::in_room;

@@ -1,4 +1,4 @@
--- `case_file::vetting::root_closed` meets its contract: the root's entry of the table is empty exactly if the root has no free variable.
+-- `case_file::vetting::root_closed` meets its contract: the root's entry of the table is empty exactly if nothing is free in the root.
 use borrow.Author.Needs.{needs}
 use native.Mathlib.Omega.{arith}
 use Rattle.case_model.specs.Case.{read, rule}

@@ -1,0 +1,115 @@
+/* Calls all six functions of hoidrul.h on one case file. From the repository's root, after rt staticlib hoidrul:
+ *
+ *     cc -I include examples/all_six.c target/staticlib/libhoidrul.a
+ *     ./a.out cases/two_wheels.case
+ *
+ * A refusal prints its number and place on standard error, and the exit status is 1. */
+#include <hoidrul.h>
+#include <inttypes.h>
+#include <stdio.h>
+#include <stdlib.h>
+
+static const char *path;
+
+/* The reply, if it is an answer. */
+static uint64_t answer(uint64_t reply)
+{
+    if (!hoidrul_refused(reply))
+        return reply;
+    fprintf(stderr, "%s: refused %" PRIu32 " %" PRIu32 "\n", path, hoidrul_number(reply), hoidrul_place(reply));
+    exit(EXIT_FAILURE);
+}
+
+static void fail(const char *what)
+{
+    perror(what);
+    exit(EXIT_FAILURE);
+}
+
+/* One byte more than a case can have is enough to see that a file is too long. */
+static size_t read_file(uint8_t file[HOIDRUL_LONGEST + 1])
+{
+    FILE *stream = fopen(path, "rb");
+    if (!stream)
+        fail(path);
+    size_t len = fread(file, 1, HOIDRUL_LONGEST + 1, stream);
+    if (ferror(stream))
+        fail(path);
+    fclose(stream);
+    return len;
+}
+
+static void print_sections(const uint8_t *file, size_t len)
+{
+    static const char *const names[] = {"labels", "steps", "rule"};
+    for (size_t section = HOIDRUL_LABELS; section <= HOIDRUL_RULE; section++) {
+        uint64_t part = hoidrul_open(file, len, section);
+        printf("%s: %zu bytes from byte %zu\n", names[section], hoidrul_length(part), hoidrul_offset(part));
+    }
+}
+
+/* On the set of all states: which states hold, and the rounds. */
+static void judge(const uint8_t *file, size_t len)
+{
+    uint64_t counts = answer(hoidrul_vet(file, len, HOIDRUL_RULE));
+    size_t n = hoidrul_states(counts), words = hoidrul_words(n, hoidrul_nodes(counts));
+    uint16_t *work = malloc(words * sizeof *work);
+    if (!work)
+        fail("work area");
+    uint64_t verdict = answer(hoidrul_judge(file, len, hoidrul_all_states(n), work, words));
+    free(work);
+    for (size_t state = 0; state < n; state++)
+        printf("%zu %s\n", state, hoidrul_holds(verdict, state) ? "holds" : "does not hold");
+    printf("rounds: %" PRIu64 "\n", hoidrul_rounds(verdict));
+}
+
+/* Merges the first state that has a lower one alike to it with that one. */
+static void merge_first(const uint8_t *file, size_t len)
+{
+    uint8_t classes[16], out[HOIDRUL_LONGEST];
+    size_t n = answer(hoidrul_classes(file, len, classes, sizeof classes));
+    printf("classes:");
+    for (size_t state = 0; state < n; state++)
+        printf(" %d", classes[state]);
+    printf("\n");
+    for (size_t state = 0; state < n; state++)
+        if (classes[state] < state) {
+            size_t written = answer(hoidrul_merge(file, len, classes[state], state, out, sizeof out));
+            printf("states %d and %zu merged: %zu bytes\n", classes[state], state, written);
+            judge(out, written);
+            return;
+        }
+}
+
+/* Rewrites by the first law that fits a node, at the first such node. */
+static void rewrite_first(const uint8_t *file, size_t len, size_t nodes)
+{
+    uint8_t out[HOIDRUL_LONGEST];
+    for (size_t law = 1; law <= 9; law++)
+        for (size_t node = 0; node < nodes; node++) {
+            uint64_t reply = hoidrul_rewrite(file, len, law, node, out, sizeof out);
+            if (hoidrul_refused(reply)) /* It does not fit, or the rule would get too many nodes. */
+                continue;
+            printf("law %zu at node %zu: %zu bytes\n", law, node, (size_t)reply);
+            judge(out, reply);
+            return;
+        }
+}
+
+int main(int argc, char **argv)
+{
+    uint8_t file[HOIDRUL_LONGEST + 1];
+    if (argc != 2) {
+        fprintf(stderr, "usage: all_six CASE\n");
+        return EXIT_FAILURE;
+    }
+    path = argv[1];
+    size_t len = read_file(file);
+    uint64_t counts = answer(hoidrul_vet(file, len, HOIDRUL_LABELS));
+    printf("states: %zu\nnodes: %zu\n", hoidrul_states(counts), hoidrul_nodes(counts));
+    print_sections(file, len);
+    judge(file, len);
+    merge_first(file, len);
+    rewrite_first(file, len, hoidrul_nodes(counts));
+    return EXIT_SUCCESS;
+}

@@ -1,0 +1,23 @@
+//! What the judging program must print, by the plain checker.
+use crate::judging::all_states;
+use plain::{judge, vet, Refusal};
+use std::fmt::Write as _;
+
+/// The program's work area, in words.
+pub const WORDS: usize = 32_768;
+
+/// What document 01 wants printed of a file.
+pub fn wanted(file: &[u8]) -> String {
+    let states = vet(file, 0).map_or(0, |(states, _)| states);
+    match judge(file, all_states(states), WORDS) {
+        Err(Refusal { number, place }) => format!("refused {number} {place}\n"),
+        Ok(verdict) => {
+            let mut print = format!("states {states}\nrounds {}\n", verdict.rounds);
+            for (state, &holds) in verdict.states.iter().enumerate() {
+                let holds = if holds { "yes" } else { "no" };
+                writeln!(print, "{state} {holds}").expect("room in a string");
+            }
+            print
+        }
+    }
+}

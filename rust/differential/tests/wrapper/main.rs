@@ -1,0 +1,6 @@
+//! The script `judge`: what it prints, what it says on standard error and its exit status.
+mod calls;
+mod checks;
+mod inputs;
+mod prints;
+mod stub;

@@ -1,0 +1,77 @@
+//! Programs that are not what the script expects: it has no answer from what they print.
+use crate::calls::shells;
+use crate::stub::Repository;
+
+/// A repository whose rt builds a program that does this.
+fn repository(name: &str, does: &str) -> Repository {
+    let repository = Repository::new(name);
+    let build = "cat program >target/bin/judge_case; chmod +x target/bin/judge_case; exit 0";
+    let during = format!("mkdir -p target/bin; {build}");
+    repository.put("during judge_case", &during);
+    repository.put("program", &format!("#!/bin/sh\n{does}\n"));
+    repository
+}
+
+#[test]
+fn prints_that_are_answers() {
+    for (i, print) in [
+        "states 2\\nrounds 18446744073709551615\\n0 yes\\n1 no\\n",
+        "refused 1 0\\n",
+        "refused 13 6365\\n",
+    ]
+    .into_iter()
+    .enumerate()
+    {
+        let repository = repository(&format!("answer {i}"), &format!("printf '{print}'"));
+        repository.call();
+        repository.call().answers(&print.replace("\\n", "\n"));
+    }
+}
+
+#[test]
+fn prints_that_are_none() {
+    for (i, print) in [
+        "",
+        "\\n",
+        "junk\\n",
+        "refused\\n",
+        "states 1\\n",
+        "states 1\\nrounds 1\\n",
+        "states 1\\nrounds 1\\n0 maybe\\n",
+        "rounds 1\\nstates 1\\n0 yes\\n",
+    ]
+    .into_iter()
+    .enumerate()
+    {
+        let repository = repository(&format!("print {i}"), &format!("printf '{print}'"));
+        repository.call().ends_in_trouble("something else");
+        repository.call().is_trouble("something else");
+    }
+}
+
+/// The print is an answer, and yet the program did not end as it should.
+#[test]
+fn programs_that_die() {
+    let print = "printf 'refused 1 0\\n'";
+    for (name, end) in [
+        ("status", "exit 3"),
+        ("segv", "kill -s SEGV $$"),
+        ("killed", "kill -s KILL $$"),
+        ("pipe", "kill -s PIPE $$"),
+    ] {
+        let repository = repository(name, &format!("{print}; echo noise >&2; {end}"));
+        repository.call().ends_in_trouble("died");
+        for shell in shells() {
+            let outcome = repository.wrapper.run_by(shell, "judge", b"");
+            outcome.is_trouble("died");
+        }
+    }
+}
+
+/// A file that no system runs.
+#[test]
+fn no_program() {
+    let repository = repository("no program", "exit");
+    repository.put("program", "\0");
+    repository.call().ends_in_trouble("judge: the program");
+}

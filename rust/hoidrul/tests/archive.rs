@@ -1,0 +1,47 @@
+//! How the build finds the archive: the environment variable HOIDRUL_LIB_DIR.
+mod common;
+
+use common::{cargo, run, scratch};
+use std::fs;
+use std::path::Path;
+use std::process::Command;
+
+/// What cargo told, having failed or not, with the archive looked for in a folder.
+fn told(cargo: &mut Command, folder: &Path, success: bool) -> String {
+    let output = run(cargo.env("HOIDRUL_LIB_DIR", folder));
+    let text = String::from_utf8_lossy(&output.stderr).into_owned();
+    assert_eq!(output.status.success(), success, "{text}");
+    text
+}
+
+#[test]
+fn linked_from_any_folder() {
+    let folder = scratch("elsewhere");
+    fs::create_dir_all(&folder).unwrap();
+    let archive = Path::new(env!("HOIDRUL_ARCHIVE_DIR")).join("libhoidrul.a");
+    fs::copy(archive, folder.join("libhoidrul.a")).unwrap();
+    told(
+        &mut cargo(&["build", "--example", "holds"], "built"),
+        &folder,
+        true,
+    );
+}
+
+#[test]
+fn a_missing_archive_stops_the_build() {
+    let folder = scratch("nowhere");
+    let archive = folder.join("libhoidrul.a");
+    let line = format!(
+        "there is no {}: run rt staticlib hoidrul",
+        archive.display()
+    );
+    for command in ["build", "check"] {
+        let text = told(&mut cargo(&[command], "stopped"), &folder, false);
+        assert!(text.contains(&line), "{text}");
+    }
+}
+
+#[test]
+fn checked_without_an_archive() {
+    told(&mut cargo(&["check"], "checked"), Path::new(""), true);
+}

@@ -1,0 +1,130 @@
+//! Every entry in threads of `STACK` bytes of stack, many at once, on the cases that need the most.
+use hoidrul::{Refusal, LABELS, LONGEST, RULE, STACK};
+use std::sync::Barrier;
+use std::thread::{self, Builder};
+
+type Triple = [u8; 3];
+
+/// The file of a case whose root is its last node.
+fn file(labels: &[u8], steps: &[Triple], nodes: &[Triple]) -> Vec<u8> {
+    let (steps, mut rule) = (steps.concat(), nodes.concat());
+    rule.push(nodes.len() as u8 - 1);
+    let mut file = vec![];
+    let mut offset = 12;
+    for section in [labels, &steps, &rule] {
+        for number in [offset, section.len()] {
+            file.extend((number as u16).to_le_bytes());
+        }
+        offset += section.len();
+    }
+    file.extend([labels, &steps, &rule].concat());
+    file
+}
+
+/// Every step that 16 states can have, in order.
+fn all_steps() -> Vec<Triple> {
+    let step = |i: u16| [(i / 128) as u8, (i / 16 % 8) as u8, (i % 16) as u8];
+    (0..2048).map(step).collect()
+}
+
+/// 64 nodes without a binder, each with the one below twice, so that all are shared.
+fn chops() -> Vec<Triple> {
+    let mut nodes = vec![[6, 0, 0]];
+    nodes.extend((0..62).map(|below| [10, below, below]));
+    nodes.push([8, 61, 62]);
+    nodes
+}
+
+/// 64 nodes: a union of all 16 variables, shared, then a binder of each, nested. Every recursion
+/// over nodes goes through all of them, and judging computes binder within binder.
+fn binders(kind: impl Fn(u8) -> u8) -> Vec<Triple> {
+    let mut nodes: Vec<Triple> = (0..16).map(|v| [4, v, 0]).collect();
+    nodes.push([8, 0, 1]);
+    nodes.extend((2..16).map(|v| [8, v + 14, v]));
+    nodes.extend((30..47).map(|below| [8, below, below]));
+    nodes.extend((0..16).map(|v| [kind(v), v, v + 47]));
+    nodes
+}
+
+fn worst_cases() -> Vec<Vec<u8>> {
+    let mut stairs = all_steps();
+    stairs.retain(|&[from, _, to]| to == from + 1);
+    let one_kind = binders(|_| 11);
+    vec![
+        file(&[255; 16], &all_steps(), &chops()),
+        file(&[255; 16], &stairs, &chops()),
+        file(&[0; 16], &all_steps(), &one_kind),
+        file(&[0; 2], &[[0, 0, 1], [1, 0, 0]], &one_kind),
+        file(&[0], &[[0, 0, 0]], &binders(|v| 11 + v % 2)),
+        // A variable is free in the root, which is found last, and one is bound twice.
+        file(
+            &[0; 16],
+            &all_steps(),
+            &[&one_kind[..62], &[[8, 61, 61]; 2]].concat(),
+        ),
+        file(
+            &[0; 16],
+            &all_steps(),
+            &[&one_kind[..63], &[[11, 0, 62]]].concat(),
+        ),
+    ]
+}
+
+/// What the six entries reply, lent areas from the heap.
+fn replies(file: &[u8]) -> Vec<Result<Vec<u8>, Refusal>> {
+    let written = |call: &dyn Fn(&mut [u8]) -> Result<usize, Refusal>| {
+        let mut out = vec![0; LONGEST];
+        call(&mut out).map(|length| out[..length].to_vec())
+    };
+    let judged = || {
+        let all = hoidrul::vet(file, LABELS)?.all_states();
+        let mut work = vec![0; hoidrul::work_area(file)?];
+        let verdict = hoidrul::judge(file, all, &mut work)?;
+        Ok([verdict.set.into(), verdict.rounds]
+            .map(u64::to_le_bytes)
+            .concat())
+    };
+    vec![
+        hoidrul::vet(file, RULE).map(|counts| vec![counts.states as u8, counts.nodes as u8]),
+        hoidrul::open(file, RULE).map(<[u8]>::to_vec),
+        judged(),
+        written(&|out| hoidrul::classes(file, out)),
+        written(&|out| hoidrul::merge(file, 0, 1, out)),
+        written(&|out| hoidrul::rewrite(file, 9, 63, out)),
+        written(&|out| hoidrul::rewrite(file, 8, 40, out)),
+    ]
+}
+
+/// Where the stack is too small, the process dies. Replies are those of a large stack.
+#[test]
+fn every_entry_fits() {
+    let cases = worst_cases();
+    assert_eq!(cases[0].len(), LONGEST);
+    let barrier = Barrier::new(cases.len());
+    thread::scope(|scope| {
+        let call = |file| {
+            barrier.wait();
+            replies(file)
+        };
+        let small = |file| {
+            Builder::new()
+                .stack_size(STACK)
+                .spawn_scoped(scope, move || call(file))
+        };
+        let threads: Vec<_> = cases.iter().map(|file| small(file).unwrap()).collect();
+        for (file, thread) in cases.iter().zip(threads) {
+            assert_eq!(thread.join().unwrap(), replies(file));
+        }
+    });
+}
+
+/// The cases are what they are meant to be: each entry answers some of them.
+#[test]
+fn answers_and_refusals() {
+    let answered = |file: &Vec<u8>| replies(file).iter().filter(|reply| reply.is_ok()).count();
+    let counts: Vec<usize> = worst_cases().iter().map(answered).collect();
+    assert_eq!(counts, [6, 5, 6, 6, 5, 0, 0]);
+    let numbers = |file: &Vec<u8>| hoidrul::vet(file, RULE).map_err(Refusal::number).err();
+    let numbers: Vec<_> = worst_cases().iter().map(numbers).collect();
+    assert_eq!(numbers, [None, None, None, None, None, Some(7), Some(6)]);
+}
