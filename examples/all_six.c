@@ -111,5 +111,7 @@ int main(int argc, char **argv)
     judge(file, len);
     merge_first(file, len);
     rewrite_first(file, len, hoidrul_nodes(counts));
+    if (fclose(stdout))
+        fail("standard output");
     return EXIT_SUCCESS;
 }

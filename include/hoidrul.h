@@ -4,7 +4,7 @@
  * A lent area, `work` or `out`, must not overlap the file. A pointer may be null where its length is 0.
  *
  * Replies. A refusal has bit 63 set, its number in bits 32 to 62 and its place in bits 0 to 31; an answer has bit 63
- * clear. The place is the triple in refusal 3, the node in 5 and 6, and else 0. A refusal leaves lent areas unchanged.
+ * clear. Places count from 0: the step in refusal 3, the node in 5 and 6, and else 0. A refusal leaves lent areas unchanged.
  * The inline functions below take replies apart.
  *
  * Threads. Nothing is kept from call to call and there is no global state: threads may call at once, each with areas
@@ -38,13 +38,13 @@ extern "C" {
 #define HOIDRUL_STEPS 1
 #define HOIDRUL_RULE 2
 
-/* The numbers of refusals, the lowest tested first. Later versions have more: let a switch have a default. */
+/* The numbers of refusals, the lowest tested first. Later versions may have more: let a switch have a default. */
 enum hoidrul_reason {
     /* under 12 or over 6,365 bytes, or the pairs do not lay three sections end to end */
     HOIDRUL_REASON_PAIRS = 1,
     /* no label, or more than 16 */
     HOIDRUL_REASON_LABELS = 2,
-    /* the steps end inside a triple, or a triple names no state or action of the case or does not rise */
+    /* section 1 ends inside a step, or a step names no state or action of the case or does not come after the one before */
     HOIDRUL_REASON_STEPS = 3,
     /* the rule is not 1 to 64 whole nodes and then the number of one of them */
     HOIDRUL_REASON_RULE = 4,
@@ -81,8 +81,8 @@ uint64_t hoidrul_open(const uint8_t *file, size_t len, size_t section);
  * enough, and all are zero after an answer. Answer: set + rounds * 2^16. Refusals: 1 to 7, 8 if set >= 2^n, 9. */
 uint64_t hoidrul_judge(const uint8_t *file, size_t len, uint16_t set, uint16_t *work, size_t words);
 
-/* The three below write to `out`, an area of `room` bytes. Answer: the count of bytes written, from its start;
- * those past them stay as they were. Refusal 13 if the area is shorter than the result. */
+/* The three below write to `out`, an area of `room` bytes. Answer: how many bytes were written, from the first on;
+ * those behind stay as they were. Refusal 13 if the area is shorter than the result. */
 
 /* Classes: one byte a state, the lowest state alike to it. Refusals: 1 to 7, 13. */
 uint64_t hoidrul_classes(const uint8_t *file, size_t len, uint8_t *out, size_t room);

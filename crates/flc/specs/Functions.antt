@@ -15,7 +15,7 @@ contained n x y = forAll n (λ s. implies (has x s) (has y s))
 unfoldable pub below : ℕ → Fun → Fun → Bool
 below n f g = forAll (2 ^ n) (λ x. contained n (f x) (g x))
 
--- clause 2.1: of a greater set the function yields a greater one
+-- clause 2.1: the larger the set, the larger what f yields
 unfoldable pub monotone : ℕ → Fun → Bool
 monotone n f = forAll (2 ^ n) (λ x. forAll (2 ^ n) (λ y. implies (contained n x y) (contained n (f x) (f y))))
 
@@ -35,12 +35,12 @@ forAllFun (suc k) b p = forAll b (λ v. forAllFun k b (λ f. p (cons v f)))
 unfoldable pub forSomeFun : ℕ → ℕ → (Fun → Bool) → Bool
 forSomeFun k b p = not (forAllFun k b (λ f. not (p f)))
 
--- clause 2.8: s is in the least fixed point at x, being in all those f
+-- clause 2.8: at x, the states that every monotone f has which body(f) is below
 unfoldable pub meet : ℕ → (Fun → Fun) → Fun
 meet n body x =
     setOf n (λ s. forAllFun (2 ^ n) (2 ^ n) (λ f. implies (both (monotone n f) (below n (body f) f)) (has (f x) s)))
 
--- clause 2.9: s is in the greatest fixed point at x, being in one of those f
+-- clause 2.9: at x, the states that some monotone f has which is below body(f)
 unfoldable pub join : ℕ → (Fun → Fun) → Fun
 join n body x =
     setOf n (λ s. forSomeFun (2 ^ n) (2 ^ n) (λ f. both (both (monotone n f) (below n f (body f))) (has (f x) s)))

@@ -1,5 +1,5 @@
 //! Rules of the source documents on the drive of a label printer. Its motor turns a roller, which
-//! feeds the web of labels or pulls it back, a step at a time. Where a state can hold, the table
+//! feeds the paper or pulls it back, a step at a time. Where a state can hold, the table
 //! has a sound drive in its lower states and one with a fault beside it.
 use crate::drives::case;
 use plain::{Case, Triple};
@@ -98,7 +98,7 @@ pub fn no_more_back_than_fed() -> Case {
 /// Some feeding goes on for ever, and after each n steps fed exactly n can be pulled back. No
 /// state of a finite drive holds.
 ///
-/// From 0, up to three steps are fed and so many pulled back, down to 6; in 3 the web is fed on
+/// From 0, up to three steps are fed and so many pulled back, down to 6; in 3 the paper is fed on
 /// without being counted.
 pub fn exactly_as_many_back() -> Case {
     let steps = [

@@ -1,4 +1,4 @@
-// Tells which states of a case hold: cargo run --release --example holds -- CASE
+// Tells which states hold of the case whose path is the argument.
 use std::{env, error::Error, fs, process};
 
 fn main() {

@@ -74,7 +74,7 @@ pub fn merge(file: &[u8], s: usize, t: usize, out: &mut [u8]) -> Result<usize, R
 /// | 5 | A;(B;C) | (A;B);C |
 /// | 6 | (A or B);C | (A;C) or (B;C) |
 /// | 7 | (A and B);C | (A;C) and (B;C) |
-/// | 8 | A or A, A and A, the same node twice | A |
+/// | 8 | A or A, A and A, one node named twice | A |
 /// | 9 | A or B, A and B | B or A, B and A |
 ///
 /// Refusals: 1 to 7, then 11 where there is no such law or node or its shape does not fit, 12 where

@@ -13,7 +13,8 @@ pub struct Verdict {
 }
 
 impl Verdict {
-    /// Whether the state is in the set. A state beyond the case is not.
+    /// Whether the state is in the set: judged on the set of all states, whether it holds. A state
+    /// beyond the case is not.
     pub fn holds(self, state: usize) -> bool {
         state < 16 && self.set >> state & 1 == 1
     }

@@ -7,7 +7,7 @@ macro_rules! rows {
     ($($number:literal $name:ident $words:literal)*) => {
         /// Why a call was refused; shown in the words below.
         ///
-        /// Later versions have more reasons. A call panics if the archive is of such a version and
+        /// Later versions may have more reasons. A call panics if the archive is of such a version and
         /// refuses it with a number that is not here.
         #[derive(Clone, Copy, Debug, PartialEq, Eq, PartialOrd, Ord, Hash)]
         #[non_exhaustive]
@@ -41,7 +41,7 @@ macro_rules! rows {
 rows! {
     1 Pairs "under 12 or over 6,365 bytes, or the pairs do not lay three sections end to end"
     2 Labels "no label, or more than 16"
-    3 Steps "the steps end inside a triple, or a triple names no state or action of the case or does not rise"
+    3 Steps "section 1 ends inside a step, or a step names no state or action of the case or does not come after the one before"
     4 Rule "the rule is not 1 to 64 whole nodes and then the number of one of them"
     5 Node "a node's kind or bytes are out of range, or it names a node that is not below it"
     6 Binder "a variable is bound a second time"
@@ -78,7 +78,7 @@ impl fmt::Display for Reason {
 pub struct Refusal {
     /// Why.
     pub reason: Reason,
-    /// The triple in [`Reason::Steps`], the node in [`Reason::Node`] and [`Reason::Binder`],
+    /// The step in [`Reason::Steps`], the node in [`Reason::Node`] and [`Reason::Binder`],
     /// else 0. The lowest there is.
     pub place: usize,
 }

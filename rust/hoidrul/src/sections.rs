@@ -4,7 +4,7 @@ use crate::{ffi, Refusal};
 
 /// The section of labels: a byte a state, bit i for proposition i.
 pub const LABELS: usize = 0;
-/// The section of steps: triples (from, action, to).
+/// The section of steps: three bytes each, from, action, to.
 pub const STEPS: usize = 1;
 /// The section of the rule: nodes (kind, A, B), then the root's number.
 pub const RULE: usize = 2;
@@ -48,7 +48,7 @@ pub fn vet(file: &[u8], section: usize) -> Result<Counts, Refusal> {
     })
 }
 
-/// Opens a section: that part of the lent file, not a copy. The steps may be empty.
+/// Opens a section: a part of the lent file, without copying. The steps may be empty.
 ///
 /// Refusals: those of [`vet`].
 ///

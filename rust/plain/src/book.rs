@@ -11,15 +11,14 @@ pub enum Edit {
     Rewrite { law: usize, node: usize },
 }
 
-/// The file of the last accepted edit and, for each state of the first case, the number of the
-/// state standing for it.
+/// A file, and which of its states stands for each state of the first case.
 pub struct Book {
     file: Vec<u8>,
     standing: Vec<usize>,
 }
 
 impl Book {
-    /// Begins with the file of an accepted case, each state standing for itself.
+    /// Begins with an accepted file, whose states stand for themselves.
     pub fn new(file: &[u8]) -> Result<Book, Refusal> {
         let states = parse(file)?.labels.len();
         Ok(Book {

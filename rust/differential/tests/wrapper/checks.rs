@@ -1,5 +1,5 @@
 //! The script over made-up crates: when it has them checked, and what it says.
-use crate::calls::outcome;
+use crate::calls::{outcome, shells};
 use crate::stub::{answer, Repository, RT, SAID};
 use std::env;
 use std::fs::{self, File, Permissions};
@@ -7,7 +7,7 @@ use std::os::unix::fs::PermissionsExt;
 use std::path::PathBuf;
 use std::time::SystemTime;
 
-const LOW: &str = "crates/low/src/lib.rt";
+const LOW: &str = "crates/low/src/lib";
 const PROGRAM: &str = "target/bin/judge_case";
 
 /// The calls of rt, and what the script says, in one file.
@@ -46,10 +46,10 @@ fn each_change_is_checked() {
     repository.put(LOW, "2");
     repository.checks(2);
     for name in [
-        "crates/middle/src/lib.rt",
-        "crates/middle/src/added.rt",
-        "crates/low/specs/Added.antt",
-        "crates/low/proofs/Added.antt",
+        "crates/middle/src/lib",
+        "crates/middle/src/added",
+        "crates/low/specs/Added",
+        "crates/low/proofs/Added",
         "crates/judge_case/stdin",
         "crates/judge_case/stdout",
     ] {
@@ -57,14 +57,14 @@ fn each_change_is_checked() {
         repository.checks(2);
         repository.answers(2);
     }
-    repository.remove("crates/middle/src/added.rt");
+    repository.remove("crates/middle/src/added");
     repository.checks(2);
     repository.put("version", "kit 2");
     repository.checks(2);
     let lines = "low:\nmiddle: low\njudge_case: middle io\n";
     repository.put("crates.txt", lines);
     repository.checks(2);
-    for other in ["crates/high/src/lib.rt", "crates/low/must-fail/other.edit"] {
+    for other in ["crates/high/src/lib", "crates/low/must-fail/other.edit"] {
         repository.put(other, "changed");
         repository.answers(2);
     }
@@ -131,7 +131,7 @@ fn changed_while_checked() {
     repository.remove("during judge_case");
     repository.checked();
     repository.checks(1);
-    let come_and_gone = "touch crates/middle/src/gone.rt; rm crates/middle/src/gone.rt";
+    let come_and_gone = "touch crates/middle/src/gone; rm crates/middle/src/gone";
     repository.put("during middle", come_and_gone);
     repository.answers(1);
     repository.put(LOW, "2");
@@ -208,6 +208,22 @@ fn no_rt() {
     repository.call().is_trouble("rt is not on PATH");
 }
 
+/// Nothing is written where nothing has to be checked. A folder stands in for a tree that is not
+/// the caller's: root can write anywhere.
+#[test]
+fn no_room_for_a_check() {
+    let repository = Repository::new("no room");
+    repository.checks(1);
+    repository.remove("target/judge.lock");
+    fs::create_dir(repository.root.join("target/judge.lock")).expect("a folder");
+    repository.answers(1);
+    repository.put(LOW, "2");
+    for shell in shells() {
+        let outcome = repository.wrapper.run_by(shell, "judge", b"");
+        outcome.is_trouble("cannot write in");
+    }
+}
+
 /// The first has the crates checked, and the others wait for it.
 #[test]
 fn calls_at_once() {
@@ -221,8 +237,11 @@ fn calls_at_once() {
     }
     let said = outcomes.iter().filter(|outcome| outcome.said == SAID);
     assert_eq!(said.count(), 1);
-    let silent = outcomes.iter().filter(|outcome| outcome.said.is_empty());
-    assert_eq!(silent.count(), 3);
+    let waited = outcomes.iter().filter(|outcome| {
+        let waiting = "judge: waiting for another call, which has the program checked\n";
+        outcome.said.is_empty() || outcome.said == waiting
+    });
+    assert_eq!(waited.count(), 3);
     assert_eq!(repository.checked(), ["low", "middle", "judge_case"]);
 }
 

@@ -149,7 +149,7 @@ fn no_such_input() {
         ("judge case/case", "case/case"),
         ("judge 'a folder'", "a folder"),
         ("judge <'a folder'", "standard input"),
-        ("judge .", "cannot read ."),
+        ("judge .", "directory"),
         ("judge /proc/self/mem", "/proc/self/mem"),
         ("judge </proc/self/mem", "standard input"),
         ("judge <&-", "standard input"),

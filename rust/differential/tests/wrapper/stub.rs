@@ -19,12 +19,13 @@ if [ -e "during $2" ]; then . "./during $2"; fi
 stamp=$(cat version crates/*/src/*)
 if [ "$stamp" = "$(cat target/stamp/judge_case)" ]; then exit 0; fi
 mkdir -p target/bin target/stamp
-printf '#!/bin/sh\nprintf "states 1\\nrounds %s\\n0 yes\\n"\n' "$(cat crates/low/src/lib.rt)" >target/bin/judge_case
+printf '#!/bin/sh\nprintf "states 1\\nrounds %s\\n0 yes\\n"\n' "$(cat crates/low/src/lib)" >target/bin/judge_case
 chmod +x target/bin/judge_case
 echo "$stamp" >target/stamp/judge_case
 "#;
 
-/// A repository of made-up crates. The last does not belong to the program.
+/// A repository of made-up crates. The last does not belong to the program. No file has a name that rt,
+/// run on the real repository, would take for one of its own.
 pub struct Repository {
     pub root: PathBuf,
     pub wrapper: Wrapper,
@@ -54,11 +55,11 @@ impl Repository {
     fn fill(&self) {
         let lines = "# Lowest first.\nlow: \nmiddle: low\njudge_case: middle io\nhigh: low\n";
         self.put("crates.txt", lines);
-        self.put("crates/low/src/lib.rt", "1");
-        self.put("crates/middle/src/lib.rt", "middle");
-        self.put("crates/judge_case/src/main.rt", "main");
+        self.put("crates/low/src/lib", "1");
+        self.put("crates/middle/src/lib", "middle");
+        self.put("crates/judge_case/src/main", "main");
         self.put("crates/judge_case/stdin", "case");
-        self.put("crates/high/src/lib.rt", "high");
+        self.put("crates/high/src/lib", "high");
         self.put("version", "kit 1");
         self.put("bin/rt", RT);
         let all = Permissions::from_mode(0o755);
