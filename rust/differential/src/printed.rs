@@ -6,7 +6,7 @@ use std::fmt::Write as _;
 /// The program's work area, in words.
 pub const WORDS: usize = 32_768;
 
-/// What document 01 wants printed of a file.
+/// What the program has to print of a file (docs/SPECIFICATION.md, section 9).
 pub fn wanted(file: &[u8]) -> String {
     let states = vet(file, 0).map_or(0, |(states, _)| states);
     match judge(file, all_states(states), WORDS) {

@@ -1,7 +1,6 @@
 //! What the documents say of each other, of the crates and of the cases.
 use differential::drives::read;
-use differential::judging::all_states;
-use plain::{judge, vet};
+use differential::printed::wanted;
 use std::collections::BTreeSet;
 use std::fs;
 use std::path::{Path, PathBuf};
@@ -98,20 +97,17 @@ fn blocks(markdown: &str, fence: &str) -> Vec<String> {
     blocks.map(String::from).collect()
 }
 
-/// The print of a file, by the plain checker.
-fn print(file: &[u8]) -> String {
-    let (states, _) = vet(file, 0).expect("an accepted case");
-    let verdict = judge(file, all_states(states), 32_768).expect("a verdict");
-    let holds = |&holds: &bool| if holds { "yes" } else { "no" };
-    let lines = verdict.states.iter().map(holds).enumerate();
-    let lines: String = lines.map(|(s, holds)| format!("\n{s} {holds}")).collect();
-    format!("states {states}\nrounds {}{lines}", verdict.rounds)
+/// Whether README shows the print of a file, as the plain checker has it.
+fn shows_print(readme: &str, file: &[u8]) -> bool {
+    let print = wanted(file);
+    blocks(readme, "text")
+        .iter()
+        .any(|text| text == print.trim_end())
 }
 
 #[test]
 fn prints_of_readme() {
-    let prints = blocks(&text("README.md"), "text");
-    assert!(prints.contains(&print(&read("two_wheels.case"))));
+    assert!(shows_print(&text("README.md"), &read("two_wheels.case")));
 }
 
 /// README's case of one's own, written by its own command.
@@ -130,7 +126,7 @@ fn a_case_written_by_hand() {
         .expect("sh");
     assert!(status.success());
     let file = fs::read(folder.join("my.case")).expect("my.case");
-    assert!(blocks(&readme, "text").contains(&print(&file)));
+    assert!(shows_print(&readme, &file));
     assert!(shown(&readme).contains(&file));
 }
 

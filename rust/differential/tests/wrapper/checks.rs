@@ -35,6 +35,8 @@ fn the_input_is_not_for_rt() {
     let input = vec![b'x'; 300_000];
     let outcome = repository.wrapper.run_by("", "judge", &input);
     assert_eq!(outcome.status, Some(0), "{outcome:?}");
+    let calls = fs::read_to_string(repository.root.join("calls")).expect("calls");
+    assert!(calls.contains("version") && !calls.contains('x'));
     assert_eq!(repository.checked(), ["low", "middle", "judge_case"]);
 }
 
