@@ -11,12 +11,15 @@ use lib.Dec.{leb}
 use lib.ListN.{length, drop}
 use Rattle.flc.specs.Sets.{first}
 use Rattle.flc.specs.Bisimulation.{alike}
+use Rattle.case_model.specs.Limits.{standard}
+use Rattle.case_model.specs.Areas.{Laid}
 use Rattle.case_model.specs.Bytes.{listOf}
 use Rattle.case_model.specs.Case.{Case, read, table}
 use Rattle.case_model.specs.Rows.{sound, refused, refusals}
-use Rattle.case_model.specs.Replies.{answers, refuses}
-use Rattle.case_model.specs.Merging.{counted, written, lowestAlike, classing}
+use Rattle.case_model.specs.Replies.{answers, refuses, counted, written}
+use Rattle.case_model.specs.Merging.{lowestAlike, classing}
 use Rattle.case_model.proofs.Lists.{length-listOf, listOf-ext}
+use Rattle.case_model.proofs.Laying.{laid-whole}
 use Rattle.bisimilarity.specs.Graphs.{tableOf, Drawn}
 use Rattle.bisimilarity.specs.Relations.{related, Rows}
 use Rattle.bisimilarity.specs.declared.graph.Graph.{Graph}
@@ -50,21 +53,27 @@ served-none n room e l = elim (decLe n room) [
 ]
 
 -- ---- what classes replies
-pub classing-refused : (f : List ℕ) (room k p : ℕ) → refusals f ≡ refused k p → classing f room ≡ refuses k p
+pub classing-refused : (f : List ℕ) (room k p : ℕ) → refusals standard f ≡ refused k p → classing f room ≡ refuses k p
 unfolding classing
 classing-refused f room k p e = rw e
 
 -- an accepted case, of whose classes so many bytes are written
-module _ (f out : List ℕ) (ok : refusals f ≡ sound) {g : Graph} {rows : List ℕ} (d : Drawn (read f) g) (r : Rows (g .states) rows (alike (tableOf g)))
+module _ (f out : List ℕ) (ok : refusals standard f ≡ sound) {g : Graph} {rows : List ℕ} (d : Drawn (read f) g) (r : Rows (g .states) rows (alike (tableOf g)))
     {n count : ℕ} (states : n ≡ length (read f .labels)) (served : count ≡ cond (leb n (length out)) n 0)
-    {v : List ℕ} (w : v ≡ listOf count (λ s. first (related rows s) 0 s) ++ drop count out) where
+    {v : List ℕ} (w : Laid out v 0 count (listOf count (λ s. first (related rows s) 0 s))) where
+  -- the area after the call
+  front : v ≡ listOf count (λ s. first (related rows s) 0 s) ++ drop count out
+  front =
+      let h = length-listOf count (λ s. first (related rows s) 0 s) in
+      rw h at (laid-whole w (served-within n (length out) served .1))
+
   pub classing-short : count < n → (refuses 13 0 ≡ counted (classing f (length out))) × (v ≡ written (classing f (length out)) out)
   unfolding classing listOf
   classing-short h =
       let (l, z) = served-none n (length out) served h in
       let e : classing f (length out) ≡ refuses 13 0 =
       rw (ok, length-listOf (length (read f .labels)) (lowestAlike (table (read f))), lt-leb (length (read f .labels)) (length out) (omega arith)) in
-      (rw e, rw e (rw z at w))
+      (rw e, rw e (rw z at front))
 
   pub classing-whole : n ≤ count → (answers n ≡ counted (classing f (length out))) × (v ≡ written (classing f (length out)) out)
   unfolding classing
@@ -74,4 +83,4 @@ module _ (f out : List ℕ) (ok : refusals f ≡ sound) {g : Graph} {rows : List
       let m = length-listOf (length (read f .labels)) (lowestAlike (table (read f))) in
       let e : classing f (length out) ≡ answers (listOf (length (read f .labels)) (lowestAlike (table (read f)))) =
       rw (ok, m, le-leb (length (read f .labels)) (length out) (omega arith)) in
-      (rw (e, m, states), rw (e, m, ← lowest-alike d r) (rw q at w))
+      (rw (e, m, states), rw (e, m, ← lowest-alike d r) (rw q at front))

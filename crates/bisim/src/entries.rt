@@ -1,24 +1,26 @@
 // The entry that writes the classes.
 ghost use mathlib.Core.Path.{_≡_};
 ghost use mathlib.Core.Bool.{cond};
-ghost use mathlib.Core.List.{_++_};
 ghost use Prim.Native.Nat.{_≤_, _<_};
 ghost use lib.Dec.{leb};
-ghost use lib.ListN.{length, drop};
+ghost use lib.ListN.{length};
 ghost use Rattle.flc.specs.Sets.{first};
+ghost use Rattle.case_model.specs.Areas.{Laid};
 ghost use Rattle.case_model.specs.Bytes.{listOf};
-ghost use Rattle.case_model.specs.Rows.{mostStates, sound, refusals};
-ghost use Rattle.case_model.specs.Merging.{counted, written, classing};
+ghost use Rattle.case_model.specs.Rows.{sound, refusals};
+ghost use Rattle.case_model.specs.Limits.{mostStates, standard};
+ghost use Rattle.case_model.specs.Merging.{classing};
+ghost use Rattle.case_model.specs.Replies.{counted, written};
 ghost use Rattle.bisimilarity.specs.Relations.{related};
-ghost use Rattle.bisim.specs.Told.{told};
-use crate::written::Written;
-use crate::written::refused;
+ghost use Rattle.case_file.specs.EnumNumbers.{writtenReply};
 use bisimilarity::alike_rows;
 use bisimilarity::draw;
 use bisimilarity::member;
 use case_file::Case;
 use case_file::Reason;
 use case_file::Vetted;
+use case_file::Written;
+use case_file::refused;
 use case_reader::state_count;
 
 // The lowest state that row s has, s itself if none is lower.
@@ -39,7 +41,7 @@ fn lowest(rows: [u16; 16], s: usize) -> usize
 
 fn write(rows: [u16; 16], n: usize, out: &mut [u8])
     requires { ⌜ (n ≤ mostStates) × (n ≤ length (now out)) ⌝ }
-    ensures { λ _. ⌜ now (out .exit) ≡ listOf n (λ s. first (related rows s) 0 s) ++ drop n (now (out .entry)) ⌝ }
+    ensures { λ _. ⌜ Laid (now (out .entry)) (now (out .exit)) 0 n (listOf n (λ s. first (related rows s) 0 s)) ⌝ }
 {
     for s in 0..n {
         out[s] = lowest(rows, s) as u8;
@@ -55,8 +57,8 @@ fn served(n: usize, room: usize) -> usize
 
 // The classes of an accepted case.
 fn write_classes(file: &[u8], out: &mut [u8]) -> Written
-    requires { ⌜ refusals (now file) ≡ sound ⌝ }
-    ensures { λ r. ⌜ told r ≡ counted (classing (now (file .entry)) (length (now (out .entry)))) ⌝ }
+    requires { ⌜ refusals standard (now file) ≡ sound ⌝ }
+    ensures { λ r. ⌜ writtenReply r ≡ counted (classing (now (file .entry)) (length (now (out .entry)))) ⌝ }
     ensures { λ r. ⌜ now (out .exit) ≡ written (classing (now (file .entry)) (length (now (out .entry)))) (now (out .entry)) ⌝ }
 {
     let n = state_count(file);
@@ -70,7 +72,7 @@ fn write_classes(file: &[u8], out: &mut [u8]) -> Written
 
 // Writes a byte for each state: the lowest that is alike to it.
 pub fn classes(file: &[u8], out: &mut [u8]) -> Written
-    ensures { λ r. ⌜ told r ≡ counted (classing (now (file .entry)) (length (now (out .entry)))) ⌝ }
+    ensures { λ r. ⌜ writtenReply r ≡ counted (classing (now (file .entry)) (length (now (out .entry)))) ⌝ }
     ensures { λ r. ⌜ now (out .exit) ≡ written (classing (now (file .entry)) (length (now (out .entry)))) (now (out .entry)) ⌝ }
 {
     let vetted = Case::new(file);

@@ -1,143 +1,79 @@
--- The table of successors after some of the steps, and that the graph of a valid case has the case's state table.
--- A step more adds one state to one entry; what no step says is in no entry.
-use mathlib.Core.Bool.{Bool, false, or-false, or-assoc}
-use mathlib.Core.List.{List, [], _∷_}
-use mathlib.Core.Path.{_≡_, refl, sym, ap, _∙_, subst}
-use Prim.Native.Nat.{ℕ, zero, suc, _+_, _*_, _^_, _≤_, _<_}
-use native.Mathlib.Decide.{ℕ-discrete, decLt}
-use native.Mathlib.Nat.{not-suc-le-zero, le-of-suc-le-suc}
-use native.Mathlib.Numerals.{add-one}
+-- The graph of a valid case has the case's labels and state table.
+-- The rows hold just the steps of the file that have a place there, and all steps of a valid case have one.
+use mathlib.Core.Bool.{Bool, false}
+use mathlib.Core.List.{List}
+use mathlib.Core.Path.{_≡_, sym, ap, _∙_}
+use Prim.Native.Nat.{ℕ, _+_, _*_, _≤_, _<_}
+use native.Mathlib.Decide.{decLt}
 use native.Mathlib.Omega.{arith}
-use borrow.Author.Tests.{lt-ltb, le-ltb, eq-eqb}
-use lib.Bits.{bitOr}
-use lib.Dec.{eqb, eqb→eq}
-use lib.ListN.{length, getD, set, take, replicate, length-set}
-use lib.Seq.{getD-set-same, getD-set-other, take-all}
-use Rattle.flc.specs.Sets.{both, either, has, setOf}
+use borrow.Author.Tests.{lt-ltb, le-ltb}
+use lib.ListN.{length, getD, replicate, List·getD-eq-default}
+use lib.Pow.{pow-mono}
+use Rattle.flc.specs.Sets.{both, has, setOf}
 use Rattle.flc.specs.Bisimulation.{actions}
-use Rattle.flc.proofs.Tests.{both-left, both-right}
-use Rattle.flc.proofs.Masks.{has-setOf, setOf-lt, setOf-ext}
-use Rattle.case_model.specs.Case.{Triple, Case, at, listed, table}
+use Rattle.flc.proofs.Masks.{has-setOf, setOf-lt, set-ext, has-empty, has-beyond}
+use Rattle.case_model.specs.Areas.{Filled}
+use Rattle.case_model.specs.Limits.{mostStates}
+use Rattle.case_model.specs.Case.{Case, listed, table}
+use Rattle.case_model.specs.Valid.{ValidTable}
 use Rattle.case_model.proofs.Tests.{is-false}
-use Rattle.case_model.proofs.Valid.{Valid}
-use Rattle.case_model.proofs.Steps.{InRange, step-in, listed-in}
-use Rattle.bisimilarity.specs.Graphs.{tableOf, Successors, Drawn}
+use Rattle.case_model.proofs.Filling.{front-at}
+use Rattle.case_model.proofs.Steps.{listed-in}
+use Rattle.case_reader.specs.StepRows.{relation, StepRows}
+use Rattle.bisimilarity.specs.Graphs.{tableOf, Drawn}
 use Rattle.bisimilarity.specs.declared.graph.Graph.{Graph}
-use Rattle.bisimilarity.proofs.Sets.{setOf-none, has-beyond, or-single}
 
--- x is the step (s, a, t)
-abbrev isStep : Triple → ℕ → ℕ → ℕ → Bool
-isStep x s a t = both (eqb (x .0) s) (both (eqb (x .1) a) (eqb (x .2) t))
+-- a table filled with the labels has them all, and 0 past the last
+pub labels-filled : {i : ℕ} {table : List ℕ} (l : List ℕ) → Filled (replicate 16 0) table 0 i (λ u. getD l u 0) → 16 ≤ i → length l ≤ 16
+    → (u : ℕ) → getD table u 0 ≡ getD l u 0
+labels-filled {table = table} l f h few u = elim (decLt u 16) [
+  | yes q ↦ front-at f u (omega arith)
+  | no q ↦ List·getD-eq-default table 0 {n = u} (omega (arith, f .long)) ∙ sym (List·getD-eq-default l 0 {n = u} (omega arith))
+]
 
-either-false : (b : Bool) → either b false ≡ b
-unfolding either
-either-false b = or-false b
-
-either-swap : (b : Bool) → either b false ≡ either false b
-unfolding either
-either-swap b = or-false b
-
-either-assoc : (a b c : Bool) → either a (either b c) ≡ either (either a b) c
-unfolding either
-either-assoc a b c = sym (or-assoc a b c)
-
--- the steps before i, and step i
-listed-more : (l : List Triple) (i : ℕ) → i < length l → (s a t : ℕ) → listed (take (suc i) l) s a t ≡ either (listed (take i l) s a t) (isStep (at l i) s a t)
-unfolding listed
-listed-more [] i h s a t = absurd (not-suc-le-zero h)
-listed-more (x ∷ l) zero h s a t = either-swap (isStep x s a t)
-listed-more (x ∷ l) (suc i) h s a t =
-    ap (either (isStep x s a t)) (listed-more l i (le-of-suc-le-suc h) s a t) ∙ either-assoc (isStep x s a t) (listed (take i l) s a t) (isStep (at l i) s a t)
-
--- a step of a valid case that was read
-pub in-range : {c : Case} → Valid c → {i count : ℕ} → count ≡ length (c .steps) → i < count → {x : Triple} → x ≡ at (c .steps) i → InRange (length (c .labels)) x
-in-range {c} valid {i} e h q = subst (InRange (length (c .labels))) (sym q) (step-in valid i (subst (λ k. i < k) e h))
-
--- ---- the table of successors
--- the states after a step of s by a, at 8s + a
-pub record Stored (n : ℕ) (step : ℕ → ℕ → ℕ → Bool) (entries : List ℕ) : Type 0 where
-  pub long : length entries ≡ 128
-  pub is : (s a : ℕ) → a < actions → getD entries (8 * s + a) 0 ≡ setOf n (step s a)
-
-zeros : (k i : ℕ) → getD (replicate k zero) i zero ≡ zero
-zeros zero i = refl
-zeros (suc k) zero = refl
-zeros (suc k) (suc i) = zeros k i
-
-pub store-none : (n : ℕ) (l : List Triple) → Stored n (listed (take 0 l)) (replicate 128 0)
-unfolding listed
-store-none n l = record { long = refl; is = λ s a h. zeros 128 (8 * s + a) ∙ sym (setOf-none n) }
-
-module _ (n i : ℕ) (l : List Triple) (entries : List ℕ) (stored : Stored n (listed (take i l)) entries) (few : n ≤ 16) (h : i < length l)
-    (x : Triple) (e : x ≡ at l i) (inside : InRange n x) where
-  place : ℕ
-  place = 8 * x .0 + x .1
-
-  new : ℕ
-  new = bitOr (getD entries place 0) (2 ^ x .2)
-
-  -- one step more, at (s, a)
-  more-at : (s a t : ℕ) → listed (take (i + 1) l) s a t ≡ either (listed (take i l) s a t) (isStep x s a t)
-  more-at s a t =
-      ap (λ k. listed (take k l) s a t) (add-one i) ∙ listed-more l i h s a t ∙ ap (λ y. either (listed (take i l) s a t) (isStep y s a t)) (sym e)
-
-  here : (s a : ℕ) → s ≡ x .0 → a ≡ x .1 → (t : ℕ) → isStep x s a t ≡ eqb (x .2) t
-  unfolding both
-  here s a p q t = rw (eq-eqb (x .0) s (sym p), eq-eqb (x .1) a (sym q))
-
-  elsewhere : (s a : ℕ) → (8 * s + a ≡ 8 * x .0 + x .1 → ⊥) → (t : ℕ) → isStep x s a t ≡ false
-  elsewhere s a ne t = is-false (isStep x s a t) (λ u.
-      let p : x .0 ≡ s = eqb→eq (x .0) s (both-left _ _ u) in
-      let q : x .1 ≡ a = eqb→eq (x .1) a (both-left _ _ (both-right _ _ u)) in
-      ne (omega arith))
-
-  pub store-more : Stored n (listed (take (i + 1) l)) (set entries (8 * x .0 + x .1) (bitOr (getD entries (8 * x .0 + x .1) 0) (2 ^ x .2)))
-  unfolding place new
-  store-more = record {
-    long = length-set entries place new ∙ stored .long;
-    is = λ s a k. elim (ℕ-discrete (8 * s + a) place) [
-      | yes q ↦
-          let p0 : s ≡ x .0 = omega (arith, inside .action) in
-          let p1 : a ≡ x .1 = omega (arith, inside .action) in
-          ap (λ j. getD (set entries place new) j 0) q ∙ getD-set-same entries place new 0 (omega (arith, inside .from, inside .action, stored .long))
-          ∙ ap (λ y. bitOr y (2 ^ x .2)) (ap (λ j. getD entries j 0) (sym q) ∙ stored .is s a k)
-          ∙ or-single n (x .2) (listed (take i l) s a) (inside .to)
-          ∙ setOf-ext n _ _ (λ t j. ap (either (listed (take i l) s a t)) (sym (here s a p0 p1 t)) ∙ sym (more-at s a t))
-      | no q ↦
-          getD-set-other entries place (8 * s + a) new 0 q ∙ stored .is s a k
-          ∙ setOf-ext n _ _ (λ t j. sym (more-at s a t ∙ ap (either (listed (take i l) s a t)) (elsewhere s a q t) ∙ either-false (listed (take i l) s a t)))
-    ];
-  }
-
--- after the last step
-pub store-all : (c : Case) (i : ℕ) (entries : List ℕ) → Stored (length (c .labels)) (listed (take i (c .steps))) entries → length (c .steps) ≤ i
-    → Successors c entries
-store-all c i entries st h s a k =
-    st .is s a k ∙ ap (λ (l : List Triple). setOf (length (c .labels)) (listed l s a)) (take-all i (c .steps) h)
-
--- ---- the graph
-module _ {c : Case} (valid : Valid c) (g : Graph)
+module _ {c : Case} (valid : ValidTable mostStates c) (g : Graph)
     (states : g .states ≡ length (c .labels))
     (labels : (s : ℕ) → getD (g .labels) s 0 ≡ getD (c .labels) s 0)
-    (successors : Successors c (g .successors)) where
-  steps-are : (s a t : ℕ) → tableOf g .step s a t ≡ listed (c .steps) s a t
-  unfolding both
-  steps-are s a t = elim (decLt a actions) [
-    | yes h ↦ rw (lt-ltb a actions h) (ap (λ x. has x t) (successors s a h) ∙ elim (decLt t (length (c .labels))) [
-      | yes k ↦ has-setOf (length (c .labels)) (listed (c .steps) s a) t k
-      | no k ↦
-          has-beyond (length (c .labels)) _ t (setOf-lt (length (c .labels)) (listed (c .steps) s a)) (omega arith)
-          ∙ sym (is-false (listed (c .steps) s a t) (λ u. k (listed-in valid s a t u .to)))
-    ])
-    | no h ↦ rw (le-ltb a actions (omega arith)) (sym (is-false (listed (c .steps) s a t) (λ u. h (listed-in valid s a t u .action))))
+    (rows : StepRows (c .steps) (g .successors)) where
+  -- what is out of range is no step
+  no-step : (s a t : ℕ) → ((s < length (c .labels)) → (a < actions) → (t < length (c .labels)) → ⊥) → listed (c .steps) s a t ≡ false
+  no-step s a t n = is-false _ (λ u. let r = listed-in valid s a t u in n (r .from) (r .action) (r .to))
+
+  -- bit t of row 8s + a, for any state and any of the actions
+  row-is : (s a t : ℕ) → a < actions → relation (g .successors) s a t ≡ listed (c .steps) s a t
+  unfolding relation
+  row-is s a t h = elim (decLt s 16) [
+    | no k ↦
+        ap (λ y. has y t) (List·getD-eq-default (g .successors) 0 {n = 8 * s + a} (omega (arith, rows .long))) ∙ has-empty t
+        ∙ sym (no-step s a t (λ i _ _. omega (arith, valid .few)))
+    | yes k ↦ elim (decLt t 16) [
+      | yes l ↦ rows .is s a t k h l
+      | no l ↦ has-beyond 16 _ t (rows .small (8 * s + a)) (omega arith) ∙ sym (no-step s a t (λ _ _ i. omega (arith, valid .few)))
+    ]
   ]
+
+  steps-are : (s a t : ℕ) → tableOf g .step s a t ≡ listed (c .steps) s a t
+  unfolding both relation
+  steps-are s a t = elim (decLt a actions) [
+    | yes h ↦ rw (lt-ltb a actions h) (row-is s a t h)
+    | no h ↦ rw (le-ltb a actions (omega arith)) (sym (no-step s a t (λ _ i _. h i)))
+  ]
+
+  -- a row is a set of states
+  row-set : (s a : ℕ) → a < actions → getD (g .successors) (8 * s + a) 0 ≡ setOf (length (c .labels)) (listed (c .steps) s a)
+  unfolding relation
+  row-set s a h =
+      let n : ℕ = length (c .labels) in
+      let p : ℕ → Bool = listed (c .steps) s a in
+      set-ext 16 _ _ (rows .small (8 * s + a)) (omega (arith, setOf-lt n p, pow-mono {i = n} {j = 16} (valid .few))) (λ t k.
+      row-is s a t h ∙ elim (decLt t n) [
+        | yes l ↦ sym (has-setOf n p t l)
+        | no l ↦ no-step s a t (λ _ _ i. l i) ∙ sym (has-beyond n _ t (setOf-lt n p) (omega arith))
+      ])
 
   pub drawn : Drawn c g
   unfolding table
   drawn = record {
-    sized = record {
-      few = omega (arith, states, valid .few);
-      within = λ s a h. rw (successors s a h, states) (setOf-lt (length (c .labels)) (listed (c .steps) s a));
-    };
+    sized = record { few = omega (arith, states, valid .few); within = λ s a h. rw (row-set s a h, states) (setOf-lt (length (c .labels)) (listed (c .steps) s a)) };
     is = λ i. record { n = states i; label = λ s. labels s i; step = λ s a t. steps-are s a t i };
   }

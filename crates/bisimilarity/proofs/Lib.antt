@@ -1,4 +1,3 @@
 pub mod Sets
-pub mod Filling
 pub mod Drawing
 pub mod Refining

@@ -2,17 +2,16 @@
 -- By induction on the width, or digit by digit.
 use mathlib.Core.Path.{_≡_, refl, sym, ap, ap₂, _∙_, subst}
 use mathlib.Core.Bool.{Bool, true, false, _&&_, not, cond}
-use Prim.Native.Nat.{ℕ, zero, suc, _+_, _*_, _/_, _%_, _^_, _≤_, _<_, suc-le-suc}
-use native.Mathlib.Nat.{zero-div, div-eq-of-lt, lt-of-lt-of-le}
+use Prim.Native.Nat.{ℕ, zero, suc, _+_, _*_, _^_, _≤_, _<_, suc-le-suc}
 use native.Mathlib.Numerals.{add-one}
 use native.Mathlib.Omega.{arith}
 use borrow.Author.Tests.{eq-eqb}
-use lib.Bits.{bitOr, bitAnd, and-le-l}
-use lib.Dec.{T, eqb, eqb→eq, eqb·zero-suc, eqb·suc-zero, eqb·suc-suc, T-not, not-T}
-use lib.Pow.{pow-pos, pow-mono, pow-lt}
-use Rattle.flc.specs.Sets.{both, either, forAll, forSome, has, bit, setOf}
+use lib.Bits.{bitAnd, and-le-l}
+use lib.Dec.{T, eqb, eqb→eq, T-not, not-T}
+use lib.Pow.{pow-pos}
+use Rattle.flc.specs.Sets.{both, forAll, forSome, has, bit, setOf}
 use Rattle.flc.proofs.Tests.{bool-ext, forSome-use, forSome-mk}
-use Rattle.flc.proofs.Masks.{has-zero, has-suc, has-setOf, setOf-lt, setOf-ext, set-ext, has-and, or-setOf}
+use Rattle.flc.proofs.Masks.{has-empty, setOf-lt, set-ext, has-and}
 use Rattle.case_model.proofs.Tests.{is-false}
 
 -- ---- one state more
@@ -28,11 +27,6 @@ pub setOf-more : (n : ℕ) (p : ℕ → Bool) → setOf (suc n) p ≡ setOf n p 
 unfolding setOf
 setOf-more zero p = lowest-place (p zero)
 setOf-more (suc n) p = omega (arith, setOf-more n (λ s. p (suc s)), twice (p (suc n)) n)
-
-pub setOf-none : (n : ℕ) → setOf n (λ s. false) ≡ 0
-unfolding setOf
-setOf-none zero = refl
-setOf-none (suc n) = omega (arith, setOf-none n)
 
 bit-rises : (a b : Bool) → (T a → T b) → bit a ≤ bit b
 bit-rises true true h = omega arith
@@ -58,32 +52,6 @@ set-small p t e = subst (λ y. y < 2 ^ t) (sym e) (setOf-lt t p)
 pub all-more : (p : ℕ → Bool) (k : ℕ) {a b : Bool} → a ≡ forAll k p → b ≡ p k → (a && b) ≡ forAll (k + 1) p
 unfolding forAll both
 all-more p k e q = ap₂ (λ a b. a && b) e q ∙ ap (λ j. forAll j p) (sym (add-one k))
-
--- ---- members
-pub has-empty : (t : ℕ) → has 0 t ≡ false
-unfolding has
-has-empty t = rw (zero-div (2 ^ t))
-
--- a set of states below n has no other
-pub has-beyond : (n x t : ℕ) → x < 2 ^ n → n ≤ t → has x t ≡ false
-unfolding has
-has-beyond n x t h k = let l : x < 2 ^ t = lt-of-lt-of-le h (pow-mono k) in rw (div-eq-of-lt l)
-
-pub has-single : (k t : ℕ) → has (2 ^ k) t ≡ eqb k t
-has-single zero zero = has-zero 1
-has-single zero (suc t) = has-suc 1 t ∙ has-empty t ∙ sym (eqb·zero-suc t)
-has-single (suc k) zero =
-    let e : 2 ^ suc k % 2 ≡ 0 = omega arith in
-    has-zero (2 ^ suc k) ∙ ap (λ x. eqb x 1) e ∙ sym (eqb·suc-zero k)
-has-single (suc k) (suc t) =
-    let e : 2 ^ suc k / 2 ≡ 2 ^ k = omega arith in
-    has-suc (2 ^ suc k) t ∙ ap (λ x. has x t) e ∙ has-single k t ∙ sym (eqb·suc-suc k t)
-
--- a set with one state more
-pub or-single : (n k : ℕ) (p : ℕ → Bool) → k < n → bitOr (setOf n p) (2 ^ k) ≡ setOf n (λ t. either (p t) (eqb k t))
-or-single n k p h =
-    or-setOf n (setOf n p) (2 ^ k) (setOf-lt n p) (pow-lt h)
-    ∙ setOf-ext n _ _ (λ t l. ap₂ either (has-setOf n p t l) (has-single k t))
 
 -- ---- sets that meet
 -- a set is not empty exactly if some state is in it

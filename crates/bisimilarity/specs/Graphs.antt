@@ -1,14 +1,13 @@
 -- The state table that the code's graph holds.
 use Prim.Native.Nat.{ℕ, _+_, _*_, _^_, _≤_, _<_}
-use mathlib.Core.List.{List}
 use mathlib.Core.Path.{_≡_}
 use lib.Dec.{ltb}
-use lib.ListN.{length, getD}
-use Rattle.flc.specs.Sets.{both, has, setOf}
+use lib.ListN.{getD}
+use Rattle.flc.specs.Sets.{both, has}
 use Rattle.flc.specs.Formula.{Table}
 use Rattle.flc.specs.Bisimulation.{actions}
-use Rattle.case_model.specs.Case.{Case, listed, table}
-use Rattle.case_model.specs.Rows.{mostStates}
+use Rattle.case_model.specs.Case.{Case, table}
+use Rattle.case_model.specs.Limits.{mostStates}
 use Rattle.bisimilarity.specs.declared.graph.Graph.{Graph}
 
 abbrev pub tableOf : Graph → Table
@@ -17,11 +16,6 @@ tableOf g = record {
   label = λ s. getD (g .labels) s 0;
   step = λ s a t. both (ltb a actions) (has (getD (g .successors) (8 * s + a) 0) t);
 }
-
--- entry 8s + a is the set of the states after a step of s by a
-abbrev pub Successors : Case → List ℕ → Type 0
-Successors c entries =
-    (s a : ℕ) → a < actions → getD entries (8 * s + a) 0 ≡ setOf (length (c .labels)) (listed (c .steps) s a)
 
 -- at most 16 states, and no step to another number
 pub record Sized (g : Graph) : Type 0 where

@@ -4,14 +4,13 @@ ghost use Prim.Native.Nat.{ℕ, _<_};
 ghost use lib.ListN.{getD};
 ghost use Rattle.flc.specs.Bisimulation.{actions};
 ghost use Rattle.case_model.specs.Case.{read};
-ghost use Rattle.case_model.specs.Rows.{mostStates};
-ghost use Rattle.case_model.proofs.Valid.{Valid};
-ghost use Rattle.bisimilarity.specs.Graphs.{Successors, Sized, Drawn, After};
+ghost use Rattle.case_model.specs.Limits.{mostStates};
+ghost use Rattle.case_model.specs.Valid.{ValidTable};
+ghost use Rattle.bisimilarity.specs.Graphs.{Sized, Drawn, After};
 use case_file::Case;
 use case_reader::label;
 use case_reader::state_count;
-use case_reader::step;
-use case_reader::step_count;
+use case_reader::step_rows;
 
 pub struct Graph {
     pub(crate) states: usize,
@@ -22,7 +21,7 @@ pub struct Graph {
 
 // The label bytes, 0 past the last state.
 fn labels(file: &[u8]) -> [usize; 16]
-    requires { ⌜ Valid (read (now file)) ⌝ }
+    requires { ⌜ ValidTable mostStates (read (now file)) ⌝ }
     ensures { λ r. ⌜ ((s : ℕ) → getD r s 0 ≡ getD (read (now (file .entry)) .labels) s 0) ⌝ }
 {
     let mut table = [0usize; 16];
@@ -32,27 +31,13 @@ fn labels(file: &[u8]) -> [usize; 16]
     table
 }
 
-fn successors(file: &[u8]) -> [u16; 128]
-    requires { ⌜ Valid (read (now file)) ⌝ }
-    ensures { λ r. ⌜ Successors (read (now (file .entry))) r ⌝ }
-{
-    let mut table = [0u16; 128];
-    let count = step_count(file);
-    for i in 0..count {
-        let x = step(file, i);
-        let at = 8 * x.0 + x.1;
-        table[at] = table[at] | (1u16 << x.2);
-    }
-    table
-}
-
 pub fn draw(file: &[u8]) -> Graph
-    requires { ⌜ Valid (read (now file)) ⌝ }
+    requires { ⌜ ValidTable mostStates (read (now file)) ⌝ }
     ensures { λ r. ⌜ Drawn (read (now (file .entry))) r ⌝ }
 {
     let states = state_count(file);
     let labels = labels(file);
-    let successors = successors(file);
+    let successors = step_rows(file);
     Graph {
         states,
         labels,

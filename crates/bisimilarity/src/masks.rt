@@ -3,7 +3,7 @@ ghost use mathlib.Core.Path.{_≡_};
 ghost use mathlib.Core.Bool.{cond};
 ghost use Prim.Native.Nat.{_+_, _^_, _<_};
 ghost use Rattle.flc.specs.Sets.{has};
-ghost use Rattle.case_model.specs.Rows.{mostStates};
+ghost use Rattle.case_model.specs.Limits.{mostStates};
 
 pub fn member(x: u16, t: usize) -> bool
     requires { ⌜ t < mostStates ⌝ }

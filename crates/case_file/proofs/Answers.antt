@@ -4,14 +4,15 @@ use mathlib.Core.List.{List}
 use mathlib.Core.Path.{_≡_, refl, sym, ap, subst, _∙_}
 use native.Mathlib.Omega.{arith}
 use lib.Dec.{ltb}
-use Rattle.case_model.specs.Bytes.{byteAt, sections}
+use Rattle.case_model.specs.Bytes.{byteAt}
 use Rattle.case_model.specs.Case.{read}
-use Rattle.case_model.specs.Rows.{Found, sound, refused, _orElse_, mostStates, mostNodes, row8, refusals}
+use Rattle.case_model.specs.Rows.{Found, sound, refused, _orElse_, row8, refusals}
+use Rattle.case_model.specs.Limits.{mostStates, mostNodes, sections, standard}
 use Rattle.case_model.specs.Replies.{Counts, counts, replied, answers, refuses, accepting, vetting}
 use Rattle.case_model.proofs.Sections.{left-sound}
 use Rattle.case_model.proofs.Valid.{accepted-valid}
 use Rattle.case_model.proofs.Places.{Placed, somewhere, later, refusals-placed}
-use Rattle.case_file.specs.Told.{number, told, countsOf}
+use Rattle.case_file.specs.EnumNumbers.{number, vettedReply, countsOf}
 use Rattle.case_file.specs.declared.reason.Reason.{Reason}
 use Rattle.case_file.specs.declared.reason.Reason.the-variants as reason
 use Rattle.case_file.specs.declared.reason.Refusal.{Refusal}
@@ -30,27 +31,27 @@ replied-refused sound a k p e = cc
 replied-refused (refused j q) a k p e = cc
 
 -- a case says that no refusal was found, and has the counts of the file
-pub accepts : (f : List ℕ) {v : Vetted} (x : Case) → v ≡ vetted.Case x → told v ≡ accepting f → (refusals f ≡ sound) × (counts (read f) ≡ countsOf x)
+pub accepts : (f : List ℕ) {v : Vetted} (x : Case) → v ≡ vetted.Case x → vettedReply v ≡ accepting standard f → (refusals standard f ≡ sound) × (counts (read f) ≡ countsOf x)
 unfolding accepting
-accepts f x q e = replied-sound (refusals f) (counts (read f)) (countsOf x) (sym e ∙ ap told q)
+accepts f x q e = replied-sound (refusals standard f) (counts (read f)) (countsOf x) (sym e ∙ ap vettedReply q)
 
 -- a refusal is the one that was found
-pub turned-back : (f : List ℕ) {v : Vetted} (x : Refusal) → v ≡ vetted.Refused x → told v ≡ accepting f → refusals f ≡ refused (number (x .reason)) (x .place)
+pub turned-back : (f : List ℕ) {v : Vetted} (x : Refusal) → v ≡ vetted.Refused x → vettedReply v ≡ accepting standard f → refusals standard f ≡ refused (number (x .reason)) (x .place)
 unfolding accepting
-turned-back f x q e = replied-refused (refusals f) (counts (read f)) _ _ (sym e ∙ ap told q)
+turned-back f x q e = replied-refused (refusals standard f) (counts (read f)) _ _ (sym e ∙ ap vettedReply q)
 
 pub record Counted (x : Case) : Type 0 where
   pub states : x .states ≤ mostStates
   pub nodes : x .nodes ≤ mostNodes
 
-pub case-small : (f : List ℕ) (k : ℕ) {v : Vetted} (x : Case) → v ≡ vetted.Case x → told v ≡ vetting f k → Counted x
+pub case-small : (f : List ℕ) (k : ℕ) {v : Vetted} (x : Case) → v ≡ vetted.Case x → vettedReply v ≡ vetting f k → Counted x
 unfolding vetting
 case-small f k x q e =
-    let (s, same) = replied-sound (refusals f orElse row8 k sections) (counts (read f)) (countsOf x) (sym e ∙ ap told q) in
-    let c = accepted-valid f (left-sound (refusals f) (row8 k sections) s) in
+    let (s, same) = replied-sound (refusals standard f orElse row8 k sections) (counts (read f)) (countsOf x) (sym e ∙ ap vettedReply q) in
+    let c = accepted-valid standard f (left-sound (refusals standard f) (row8 k sections) s) in
     record {
-      states = subst (λ (n : ℕ). n ≤ mostStates) (ap (λ (y : Counts). y .states) same) (c .few);
-      nodes = subst (λ (n : ℕ). n ≤ mostNodes) (ap (λ (y : Counts). y .nodes) same) (c .most);
+      states = subst (λ (n : ℕ). n ≤ mostStates) (ap (λ (y : Counts). y .states) same) (c .table .few);
+      nodes = subst (λ (n : ℕ). n ≤ mostNodes) (ap (λ (y : Counts). y .nodes) same) (c .rule .most);
     }
 
 -- the place of a refusal that was found by rows with small places
@@ -60,11 +61,11 @@ place-small {r = r} h a k p e = small (subst Placed (replied-refused r a k p e) 
     small : {k p : ℕ} → Placed (refused k p) → p < 2 ^ 32
     small (somewhere l) = l
 
-pub vetted-small : (f : List ℕ) → ((i : ℕ) → byteAt f i < 256) → (k : ℕ) {v : Vetted} (x : Refusal) → v ≡ vetted.Refused x → told v ≡ vetting f k
+pub vetted-small : (f : List ℕ) → ((i : ℕ) → byteAt f i < 256) → (k : ℕ) {v : Vetted} (x : Refusal) → v ≡ vetted.Refused x → vettedReply v ≡ vetting f k
     → x .place < 2 ^ 32
 unfolding vetting
 vetted-small f bytes k x q e =
-    place-small (later (refusals-placed f bytes) (ltb k sections) 8) (counts (read f)) (number (x .reason)) (x .place) (sym e ∙ ap told q)
+    place-small (later (refusals-placed standard f bytes) (ltb k sections) 8) (counts (read f)) (number (x .reason)) (x .place) (sym e ∙ ap vettedReply q)
 
 pub number-small : (r : Reason) → number r ≤ 13
 number-small reason.Pairs = omega arith

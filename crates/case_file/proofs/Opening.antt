@@ -4,14 +4,15 @@ use mathlib.Core.List.{List, []}
 use mathlib.Core.Path.{_≡_, sym, ap, _∙_}
 use borrow.Author.Tests.{ltb-true}
 use lib.ListN.{length, take, drop}
-use Rattle.case_model.specs.Bytes.{byteAt, offset, size, sections, section}
+use Rattle.case_model.specs.Bytes.{byteAt, offset, size, section}
+use Rattle.case_model.specs.Limits.{sections, standard}
 use Rattle.case_model.specs.Case.{read}
 use Rattle.case_model.specs.Rows.{_orElse_, row8, refusals}
 use Rattle.case_model.specs.Replies.{counts, vetting, opening, openedAt}
 use Rattle.case_model.proofs.Lists.{length-listOf}
 use Rattle.case_model.proofs.Sections.{within, section-part, left-sound, right-sound, unless-sound}
 use Rattle.case_model.proofs.Valid.{accepted-pairs}
-use Rattle.case_file.specs.Told.{told, countsOf}
+use Rattle.case_file.specs.EnumNumbers.{vettedReply, countsOf}
 use Rattle.case_file.proofs.Answers.{replied-sound}
 use Rattle.case_file.specs.declared.reason.Refusal.{Refusal}
 use Rattle.case_file.specs.declared.vetting.Case.{Case}
@@ -25,16 +26,16 @@ pub record Opens (f : List ℕ) (k : ℕ) : Type 0 where
   pub long : length (opening f k) ≡ size f k
   pub at : openedAt f k ≡ offset f k
 
-pub opens : (f : List ℕ) (k : ℕ) {v : Vetted} (x : Case) → v ≡ vetted.Case x → told v ≡ vetting f k → Opens f k
+pub opens : (f : List ℕ) (k : ℕ) {v : Vetted} (x : Case) → v ≡ vetted.Case x → vettedReply v ≡ vetting f k → Opens f k
 unfolding vetting opening openedAt
 opens f k {v} x q e =
-    let s = replied-sound (refusals f orElse row8 k sections) (counts (read f)) (countsOf x) (sym e ∙ ap told q) .0 in
-    let h : k < sections = ltb-true _ _ (unless-sound _ 8 0 (right-sound (refusals f) (row8 k sections) s)) in
-    let p = accepted-pairs f (left-sound (refusals f) (row8 k sections) s) in
+    let s = replied-sound (refusals standard f orElse row8 k sections) (counts (read f)) (countsOf x) (sym e ∙ ap vettedReply q) .0 in
+    let h : k < sections = ltb-true _ _ (unless-sound _ 8 0 (right-sound (refusals standard f) (row8 k sections) s)) in
+    let p = accepted-pairs standard f (left-sound (refusals standard f) (row8 k sections) s) in
     record {
       number = h;
-      fits = within f p k h;
-      is = rw (← e, q) (section-part f p k h);
+      fits = within standard f p k h;
+      is = rw (← e, q) (section-part standard f p k h);
       long = rw (← e, q) (unfold section in length-listOf (size f k) (λ i. byteAt f (offset f k + i)));
       at = rw (← e, q);
     }
@@ -43,6 +44,6 @@ pub record Empty (f : List ℕ) (k : ℕ) : Type 0 where
   pub is : [] ≡ opening f k
   pub at : openedAt f k ≡ 0
 
-pub refuses : (f : List ℕ) (k : ℕ) {v : Vetted} (x : Refusal) → v ≡ vetted.Refused x → told v ≡ vetting f k → Empty f k
+pub refuses : (f : List ℕ) (k : ℕ) {v : Vetted} (x : Refusal) → v ≡ vetted.Refused x → vettedReply v ≡ vetting f k → Empty f k
 unfolding opening openedAt
 refuses f k x q e = record { is = rw (← e, q); at = rw (← e, q) }

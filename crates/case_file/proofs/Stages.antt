@@ -4,12 +4,14 @@ use mathlib.Core.Bool.{true}
 use mathlib.Core.List.{List}
 use mathlib.Core.Path.{_≡_, sym, ap, ap₂, _∙_}
 use borrow.Author.Tests.{leb-true, ltb-true}
+use Rattle.case_model.specs.Limits.{Limits}
 use Rattle.case_model.specs.Case.{read}
 use Rattle.case_model.specs.Rows.{Found, _orElse_, ruleHolds, row1, row2, row3, row4, row5, row6}
 use Rattle.case_model.specs.Replies.{replied, counts}
 use Rattle.case_model.proofs.Sections.{orElse-assoc, left-sound, right-sound, unless-sound}
 use Rattle.case_model.proofs.Tests.{and-l, and-r}
-use Rattle.case_file.specs.Told.{found, countsOf, Stage, Went, MayClose}
+use Rattle.case_file.specs.EnumNumbers.{found, countsOf}
+use Rattle.case_file.specs.VettingStages.{Stage, Went, MayClose}
 use Rattle.case_file.specs.declared.vetting.Vetting.{Vetting}
 
 -- one test more
@@ -27,11 +29,11 @@ pub answered : {f : List ℕ} {s : Vetting} {x : Found} → Stage f s x
 answered p = ap₂ replied (p .finds) (p .has)
 
 -- where rows 1 to 6 found nothing, row 4 did not, which bounds the nodes and the root
-pub may-close : (f : List ℕ) {s : Vetting}
-    → Stage f s (row1 f orElse row2 (read f) orElse row3 f (read f) orElse row4 f (read f) orElse row5 (read f) orElse row6 (read f))
+pub may-close : (most : Limits) (f : List ℕ) {s : Vetting}
+    → Stage f s (row1 most f orElse row2 most (read f) orElse row3 f (read f) orElse row4 f (read f) orElse row5 (read f) orElse row6 (read f))
     → MayClose s (read f)
-may-close f p e =
-    let r = right-sound (row1 f orElse row2 (read f) orElse row3 f (read f)) (row4 f (read f))
+may-close most f p e =
+    let r = right-sound (row1 most f orElse row2 most (read f) orElse row3 f (read f)) (row4 f (read f))
     (left-sound _ (row5 (read f)) (left-sound _ (row6 (read f)) (sym (p .finds) ∙ e))) in
     let h : ruleHolds f (read f) ≡ true = unless-sound _ 4 0 r in
     (leb-true _ _ (search (and-l, and-r)), ltb-true _ _ (search (and-l, and-r)))

@@ -1,7 +1,8 @@
 // The two entries: vetting and opening. Each takes any bytes and any number.
 ghost use mathlib.Core.Path.{_≡_};
 ghost use Rattle.case_model.specs.Replies.{vetting, Opened};
-ghost use Rattle.case_file.specs.Told.{told};
+ghost use Rattle.case_file.specs.EnumNumbers.{vettedReply};
+use crate::vetting::Case;
 use crate::vetting::Vetted;
 use crate::vetting::Vetting;
 use case_reader::section_offset;
@@ -9,9 +10,9 @@ use case_reader::section_size;
 
 // The counts of states and nodes, or the first refusal.
 pub fn vet(file: &[u8], section: usize) -> Vetted
-    ensures { λ r. ⌜ told r ≡ vetting (now (file .entry)) section ⌝ }
+    ensures { λ r. ⌜ vettedReply r ≡ vetting (now (file .entry)) section ⌝ }
 {
-    Vetting::rows(file).section(section).reply()
+    Vetting::rows(file, Case::limits()).section(section).reply()
 }
 
 // A section as that part of the file, or an empty part where vetting refuses.

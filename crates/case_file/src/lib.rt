@@ -1,8 +1,9 @@
-// The case file: vetting it, and opening a section. docs/SPECIFICATION.md, section 1 and refusals 1 to 8.
+// The case file: vetting it, and opening a section; and the replies that entries share. docs/SPECIFICATION.md, sections 1 and 7, and refusals 1 to 8.
 mod entries;
 mod reason;
 mod tests;
 mod vetting;
+mod written;
 
 pub use entries::open;
 pub use entries::vet;
@@ -10,3 +11,5 @@ pub use reason::Reason;
 pub use reason::Refusal;
 pub use vetting::Case;
 pub use vetting::Vetted;
+pub use written::Written;
+pub use written::refused;

@@ -1,6 +1,6 @@
 // Refusals: the reasons in the order of their numbers (docs/SPECIFICATION.md, section 8), with a place.
 ghost use mathlib.Core.Path.{_≡_};
-ghost use Rattle.case_file.specs.Told.{number};
+ghost use Rattle.case_file.specs.EnumNumbers.{number};
 
 pub enum Reason {
     Pairs,

@@ -1,14 +1,24 @@
 // The tests of rows 1 to 6, each over any bytes.
 ghost use mathlib.Core.Path.{_≡_};
-ghost use Prim.Native.Nat.{_-_};
+ghost use mathlib.Core.Bool.{_&&_};
+ghost use Prim.Native.Nat.{ℕ, _*_, _-_};
 ghost use Rattle.flc.specs.Sets.{forSome, first};
-ghost use Rattle.case_model.specs.Bytes.{sections, chained, pairsHold};
+ghost use Rattle.case_model.specs.Bytes.{chained, pairsHold};
+ghost use Rattle.case_model.specs.Limits.{sections};
 ghost use Rattle.case_model.specs.Case.{read, at};
-ghost use Rattle.case_model.specs.Rows.{rises, stepWrong, nodeHolds, nodeWrong, binds, binderWrong, labelsHold, ruleHolds};
+ghost use Rattle.case_model.specs.Rows.{rises, stepWrong, nodeWrong, binds, binderWrong, labelsHold, ruleHolds};
+ghost use Rattle.case_model.specs.Kinds.{fits, nodeHolds};
 ghost use Rattle.case_reader.specs.Read.{triple};
-ghost use Rattle.case_file.specs.Told.{wrong};
+ghost use Rattle.case_reader.specs.NodeKinds.{operandOf, lineOf};
+ghost use Rattle.case_file.specs.EnumNumbers.{limitsOf};
+ghost use Rattle.case_file.specs.VettingStages.{wrong};
 use crate::vetting::Case;
+use crate::vetting::Limits;
+use case_reader::Atom;
+use case_reader::Kind;
 use case_reader::Triple;
+use case_reader::is_binder;
+use case_reader::kind_of;
 use case_reader::node;
 use case_reader::node_count;
 use case_reader::root;
@@ -19,7 +29,7 @@ use case_reader::step;
 
 // Does each section begin where the one before ends, and the last end with the file?
 fn chained(file: &[u8]) -> bool
-    ensures { λ r. ⌜ r ≡ chained (now (file .entry)) 12 0 sections ⌝ }
+    ensures { λ r. ⌜ r ≡ chained (now (file .entry)) (4 * sections) 0 sections ⌝ }
 {
     let mut at = 4 * Case::SECTIONS;
     let mut k = 0;
@@ -33,18 +43,18 @@ fn chained(file: &[u8]) -> bool
     at == file.len()
 }
 
-pub(crate) fn pairs_hold(file: &[u8]) -> bool
-    ensures { λ r. ⌜ r ≡ pairsHold (now (file .entry)) ⌝ }
+pub(crate) fn pairs_hold(file: &[u8], limits: Limits) -> bool
+    ensures { λ r. ⌜ r ≡ pairsHold (limitsOf limits) (now (file .entry)) ⌝ }
 {
     let all = file.len();
-    (4 * Case::SECTIONS <= all) & (all <= Case::LONGEST) & chained(file)
+    (4 * Case::SECTIONS <= all) & (all <= limits.longest) & chained(file)
 }
 
-pub(crate) fn labels_hold(file: &[u8]) -> bool
-    ensures { λ r. ⌜ r ≡ labelsHold (read (now (file .entry))) ⌝ }
+pub(crate) fn labels_hold(file: &[u8], limits: Limits) -> bool
+    ensures { λ r. ⌜ r ≡ labelsHold (limitsOf limits) (read (now (file .entry))) ⌝ }
 {
     let n = state_count(file);
-    (1 <= n) & (n <= Case::STATES)
+    (1 <= n) & (n <= limits.states)
 }
 
 // One less, and 0 for 0.
@@ -77,20 +87,39 @@ pub(crate) fn rule_holds(file: &[u8]) -> bool
     (section_size(file, 2) % 3 == 1) & (1 <= m) & (m <= Case::NODES) & (root(file) < m)
 }
 
-// The lines of the table of kinds, for node j.
+// Can a be the operand of such an atom?
+fn atom_fits(atom: Atom, a: usize) -> bool
+    ensures { λ r. ⌜ ((j : ℕ) → r ≡ fits (operandOf atom) j a) ⌝ }
+{
+    match atom {
+        Atom::Top => a == 0,
+        Atom::Bottom => a == 0,
+        Atom::Proposition => a < Case::PROPOSITIONS,
+        Atom::Complement => a < Case::PROPOSITIONS,
+        Atom::Tau => a == 0,
+        Atom::Diamond => a < Case::ACTIONS,
+        Atom::Boxed => a < Case::ACTIONS,
+    }
+}
+
+// Can a and b be the operands of node j, which is of this kind?
+fn operands_fit(kind: Kind, j: usize, a: usize, b: usize) -> bool
+    ensures { λ r. ⌜ r ≡ fits (lineOf kind .first) j a && fits (lineOf kind .second) j b ⌝ }
+{
+    match kind {
+        Kind::Atom(atom) => atom_fits(atom, a) & (b == 0),
+        Kind::Variable => (a < Case::VARIABLES) & (b == 0),
+        Kind::Two(_) => (a < j) & (b < j),
+        Kind::Binder(_) => (a < Case::VARIABLES) & (b < j),
+    }
+}
+
+// The table of kinds, for node j.
 fn node_holds(j: usize, t: Triple) -> bool
     ensures { λ r. ⌜ r ≡ nodeHolds j (triple t) ⌝ }
 {
-    let k = t.0;
-    let a = t.1;
-    let b = t.2;
-    ((k <= 1) & (a == 0) & (b == 0))
-        | ((2 <= k) & (k <= 3) & (a < Case::PROPOSITIONS) & (b == 0))
-        | ((k == 4) & (a < Case::VARIABLES) & (b == 0))
-        | ((k == 5) & (a == 0) & (b == 0))
-        | ((6 <= k) & (k <= 7) & (a < Case::ACTIONS) & (b == 0))
-        | ((8 <= k) & (k <= 10) & (a < j) & (b < j))
-        | ((11 <= k) & (k <= 12) & (a < Case::VARIABLES) & (b < j))
+    let fits = operands_fit(kind_of(t), j, t.1, t.2);
+    (t.0 < Kind::COUNT) & fits
 }
 
 fn node_wrong(file: &[u8], j: usize) -> bool
@@ -108,14 +137,14 @@ fn bound_below(file: &[u8], v: usize, j: usize) -> bool
     }
     let i = j - 1;
     let t = node(file, i);
-    bound_below(file, v, i) | ((11 <= t.0) & (t.1 == v))
+    bound_below(file, v, i) | (is_binder(t) & (t.1 == v))
 }
 
 fn binder_wrong(file: &[u8], j: usize) -> bool
     ensures { λ r. ⌜ r ≡ binderWrong (read (now (file .entry))) j ⌝ }
 {
     let t = node(file, j);
-    (11 <= t.0) & bound_below(file, t.1, j)
+    is_binder(t) & bound_below(file, t.1, j)
 }
 
 // What a search goes through.

@@ -2,11 +2,12 @@
 ghost use mathlib.Core.Path.{_≡_};
 ghost use Prim.Native.Nat.{_≤_, _<_};
 ghost use lib.ListN.{length};
-ghost use Rattle.case_model.specs.Bytes.{sections};
 ghost use Rattle.case_model.specs.Case.{read};
-ghost use Rattle.case_model.specs.Rows.{_orElse_, unless, rootClosed, mostNodes, row1, row2, row3, row4, row5, row6, row7, row8, refusals, sound};
+ghost use Rattle.case_model.specs.Rows.{_orElse_, unless, rootClosed, row1, row2, row3, row4, row5, row6, row7, row8, refusals, sound};
+ghost use Rattle.case_model.specs.Limits.{mostNodes, sections, standard};
 ghost use Rattle.case_model.specs.Replies.{accepting, replied};
-ghost use Rattle.case_file.specs.Told.{number, told, found, countsOf, Stage, Went, MayClose};
+ghost use Rattle.case_file.specs.EnumNumbers.{number, vettedReply, found, countsOf, limitsOf};
+ghost use Rattle.case_file.specs.VettingStages.{Stage, Went, MayClose};
 use crate::reason::Reason;
 use crate::reason::Refusal;
 use crate::tests::Search;
@@ -20,6 +21,12 @@ use case_reader::root;
 use case_reader::section_size;
 use case_reader::state_count;
 use case_reader::step_count;
+
+// What a judge may set for itself: the length of the longest file, and how many states there can be.
+pub(crate) struct Limits {
+    pub(crate) longest: usize,
+    pub(crate) states: usize,
+}
 
 // An accepted case: how many states and nodes it has.
 pub struct Case {
@@ -45,9 +52,19 @@ impl Case {
 
     // The checked constructor: a case only of a file that none of refusals 1 to 7 meets.
     pub fn new(file: &[u8]) -> Vetted
-        ensures { λ r. ⌜ told r ≡ accepting (now (file .entry)) ⌝ }
+        ensures { λ r. ⌜ vettedReply r ≡ accepting standard (now (file .entry)) ⌝ }
     {
-        Vetting::rows(file).reply()
+        Vetting::rows(file, Case::limits()).reply()
+    }
+
+    // The limits as one value.
+    pub(crate) fn limits() -> Limits
+        ensures { λ r. ⌜ limitsOf r ≡ standard ⌝ }
+    {
+        Limits {
+            longest: Case::LONGEST,
+            states: Case::STATES,
+        }
     }
 
     pub fn states(self) -> usize
@@ -123,12 +140,12 @@ impl Vetting {
     }
 
     // Rows 1 to 7, in this order.
-    pub(crate) fn rows(file: &[u8]) -> Vetting
-        ensures { λ r. ⌜ Stage (now (file .entry)) r (refusals (now (file .entry))) ⌝ }
+    pub(crate) fn rows(file: &[u8], limits: Limits) -> Vetting
+        ensures { λ r. ⌜ Stage (now (file .entry)) r (refusals (limitsOf limits) (now (file .entry))) ⌝ }
     {
         Vetting::begin(file)
-            .pairs(file)
-            .labels(file)
+            .pairs(file, limits)
+            .labels(file, limits)
             .steps(file)
             .rule(file)
             .kinds(file)
@@ -137,7 +154,7 @@ impl Vetting {
     }
 
     pub(crate) fn reply(self) -> Vetted
-        ensures { λ r. ⌜ told r ≡ replied (found (self .finding)) (countsOf (self .case)) ⌝ }
+        ensures { λ r. ⌜ vettedReply r ≡ replied (found (self .finding)) (countsOf (self .case)) ⌝ }
     {
         let case = self.case;
         let finding = self.finding;
@@ -158,16 +175,16 @@ impl Vetting {
         Vetting { case, finding }
     }
 
-    fn pairs(self, file: &[u8]) -> Vetting
-        ensures { λ r. ⌜ Went self r (row1 (now (file .entry))) ⌝ }
+    fn pairs(self, file: &[u8], limits: Limits) -> Vetting
+        ensures { λ r. ⌜ Went self r (row1 (limitsOf limits) (now (file .entry))) ⌝ }
     {
-        self.unless(pairs_hold(file), Reason::Pairs, 0)
+        self.unless(pairs_hold(file, limits), Reason::Pairs, 0)
     }
 
-    fn labels(self, file: &[u8]) -> Vetting
-        ensures { λ r. ⌜ Went self r (row2 (read (now (file .entry)))) ⌝ }
+    fn labels(self, file: &[u8], limits: Limits) -> Vetting
+        ensures { λ r. ⌜ Went self r (row2 (limitsOf limits) (read (now (file .entry)))) ⌝ }
     {
-        self.unless(labels_hold(file), Reason::Labels, 0)
+        self.unless(labels_hold(file, limits), Reason::Labels, 0)
     }
 
     fn steps(self, file: &[u8]) -> Vetting

@@ -9,12 +9,13 @@ use native.Mathlib.Omega.{arith}
 use borrow.Author.Tests.{eq-eqb, le-leb, lt-ltb}
 use lib.ListN.{length, getD, take, length-append}
 use lib.Seq.{take-all}
-use Rattle.case_model.specs.Bytes.{longest, sections, size, chained, pairsHold, joined, packed}
+use Rattle.case_model.specs.Bytes.{size, chained, pairsHold, joined, packed}
 use Rattle.case_model.specs.Case.{Case, write}
-use Rattle.case_model.specs.Rows.{sound, _orElse_, row1, row2, row3, row4, row5, row6, row7, stepWrong, nodeWrong, binderWrong, mostStates, mostNodes, refusals}
+use Rattle.case_model.specs.Rows.{sound, _orElse_, row1, row2, row3, row4, row5, row6, row7, stepWrong, nodeWrong, binderWrong, refusals}
+use Rattle.case_model.specs.Limits.{mostStates, mostNodes, sections, standard}
 use Rattle.case_model.proofs.Sections.{sound-lowest}
 use Rattle.case_model.proofs.Codec.{start, packed-offset, packed-size, length-packed, parts, length-write, size-steps, size-rule, read-write}
-use Rattle.case_model.proofs.Valid.{Valid}
+use Rattle.case_model.specs.Valid.{Valid}
 use Rattle.case_model.proofs.Steps.{steps-few}
 
 -- ---- row 1
@@ -34,33 +35,33 @@ packed-chained l (suc n) k e =
     rw (eq-eqb _ _ (packed-offset l k (omega arith)), packed-size l k (omega arith), start-next l (4 * length l) k (omega arith))
     (packed-chained l n (suc k) (omega arith))
 
-module _ (c : Case) (valid : Valid c) where
+module _ (c : Case) (valid : Valid standard c) where
   -- at most 12 + 16 + 3 · 2048 + 193 bytes
-  pairs-hold : pairsHold (write c) ≡ true
+  pairs-hold : pairsHold standard (write c) ≡ true
   unfolding pairsHold write
   pairs-hold =
       rw (
         le-leb (4 * sections) (length (write c)) (omega (arith, length-write c)),
-        le-leb (length (write c)) longest (omega (arith, length-write c, steps-few valid, valid .few, valid .most)),
+        le-leb (length (write c)) (standard .longest) (omega (arith, length-write c, steps-few (valid .table), valid .table .few, valid .rule .most)),
       )
-      (packed-chained (parts c) 3 0 refl)
+      (packed-chained (parts c) sections 0 refl)
 
-  pub valid-accepted : refusals (write c) ≡ sound
+  pub valid-accepted : refusals standard (write c) ≡ sound
   unfolding refusals
   valid-accepted =
-      subst (λ (d : Case). row1 (write c) orElse row2 d orElse row3 (write c) d orElse row4 (write c) d orElse row5 d orElse row6 d orElse row7 d ≡ sound)
+      subst (λ (d : Case). row1 standard (write c) orElse row2 standard d orElse row3 (write c) d orElse row4 (write c) d orElse row5 d orElse row6 d orElse row7 d ≡ sound)
       (sym (read-write c))
       (rw (
         pairs-hold,
-        le-leb 1 (length (c .labels)) (valid .some),
-        le-leb (length (c .labels)) mostStates (valid .few),
+        le-leb 1 (length (c .labels)) (valid .table .some),
+        le-leb (length (c .labels)) mostStates (valid .table .few),
         eq-eqb (size (write c) 1 % 3) 0 (omega (arith, size-steps c)),
-        sound-lowest 3 (stepWrong c) (length (c .steps)) (valid .steps),
+        sound-lowest 3 (stepWrong c) (length (c .steps)) (valid .table .steps),
         eq-eqb (size (write c) 2 % 3) 1 (omega (arith, size-rule c)),
-        le-leb 1 (length (c .nodes)) (omega (arith, valid .root)),
-        le-leb (length (c .nodes)) mostNodes (valid .most),
-        lt-ltb (c .root) (length (c .nodes)) (valid .root),
-        sound-lowest 5 (nodeWrong c) (length (c .nodes)) (λ j h. ap not (valid .kinds j h)),
-        sound-lowest 6 (binderWrong c) (length (c .nodes)) (valid .binders),
-        valid .closed,
+        le-leb 1 (length (c .nodes)) (omega (arith, valid .rule .root)),
+        le-leb (length (c .nodes)) mostNodes (valid .rule .most),
+        lt-ltb (c .root) (length (c .nodes)) (valid .rule .root),
+        sound-lowest 5 (nodeWrong c) (length (c .nodes)) (λ j h. ap not (valid .rule .kinds j h)),
+        sound-lowest 6 (binderWrong c) (length (c .nodes)) (valid .rule .binders),
+        valid .rule .closed,
       ))

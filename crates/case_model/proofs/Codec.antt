@@ -1,14 +1,15 @@
 -- Reading what was written gives the case that was written.
 -- By induction over the list of sections: pair k of `packed l` says where element k of l begins and how long it is, and it is there.
 use Prim.Native.Nat.{ℕ, zero, suc, _+_, _*_, _/_, _%_, _<_}
-use mathlib.Core.List.{List, [], _∷_, _++_, append-nil}
+use mathlib.Core.List.{List, [], _∷_, _++_, map, append-nil}
 use mathlib.Core.Path.{_≡_, refl, sym, ap, _∙_}
 use native.Mathlib.Nat.{not-suc-le-zero, le-of-suc-le-suc}
 use native.Mathlib.Omega.{arith}
-use lib.ListN.{length, getD, take, length-append, List·getD-append}
+use lib.ListN.{length, getD, take, length-append, length-map, List·getD-append}
 use lib.Seq.{getD-append-add, getD-at}
 use Rattle.case_model.specs.Bytes.{listOf, byteAt, wordAt, offset, size, section, word, pairs, joined, packed}
-use Rattle.case_model.specs.Case.{Triple, Case, tripleAt, read, flat, write, at}
+use Rattle.case_model.specs.Case.{Case, tripleAt, read, flat, write, at}
+use Rattle.case_model.specs.Kinds.{Triple}
 use Rattle.case_model.proofs.Lists.{listOf-ext, listOf-getD}
 
 -- ---- the pairs
@@ -27,22 +28,22 @@ abbrev pub start : ℕ → List (List ℕ) → ℕ → ℕ
 start from l k = from + length (joined (take k l))
 
 -- what pair k says, whatever follows the pairs
-pairs-offset : (l : List (List ℕ)) (r : List ℕ) (from k : ℕ) → k < length l → offset (pairs from l ++ r) k ≡ start from l k
+pairs-offset : (l : List (List ℕ)) (r : List ℕ) (from k : ℕ) → k < length l → offset (pairs from (map length l) ++ r) k ≡ start from l k
 pairs-offset [] r from k h = absurd (not-suc-le-zero h)
 pairs-offset (s ∷ l) r from zero h = word-back from ∙ omega arith
 pairs-offset (s ∷ l) r from (suc k) h =
-    past from (length s) (pairs (from + length s) l ++ r) (4 * k) (4 * suc k) (omega arith) ∙ pairs-offset l r (from + length s) k (le-of-suc-le-suc h)
+    past from (length s) (pairs (from + length s) (map length l) ++ r) (4 * k) (4 * suc k) (omega arith) ∙ pairs-offset l r (from + length s) k (le-of-suc-le-suc h)
     ∙ omega (arith, length-append s (joined (take k l)))
 
-pairs-size : (l : List (List ℕ)) (r : List ℕ) (from k : ℕ) → k < length l → size (pairs from l ++ r) k ≡ length (getD l k [])
+pairs-size : (l : List (List ℕ)) (r : List ℕ) (from k : ℕ) → k < length l → size (pairs from (map length l) ++ r) k ≡ length (getD l k [])
 pairs-size [] r from k h = absurd (not-suc-le-zero h)
 pairs-size (s ∷ l) r from zero h = word-back (length s)
 pairs-size (s ∷ l) r from (suc k) h =
-    past from (length s) (pairs (from + length s) l ++ r) (4 * k + 2) (4 * suc k + 2) (omega arith) ∙ pairs-size l r (from + length s) k (le-of-suc-le-suc h)
+    past from (length s) (pairs (from + length s) (map length l) ++ r) (4 * k + 2) (4 * suc k + 2) (omega arith) ∙ pairs-size l r (from + length s) k (le-of-suc-le-suc h)
 
-length-pairs : (l : List (List ℕ)) (from : ℕ) → length (pairs from l) ≡ 4 * length l
+pub length-pairs : (l : List ℕ) (from : ℕ) → length (pairs from l) ≡ 4 * length l
 length-pairs [] from = refl
-length-pairs (s ∷ l) from = omega (arith, length-pairs l (from + length s))
+length-pairs (n ∷ l) from = omega (arith, length-pairs l (from + n))
 
 -- byte x of section k
 joined-at : (l : List (List ℕ)) (k x : ℕ) → x < length (getD l k []) → byteAt (joined l) (start 0 l k + x) ≡ getD (getD l k []) x 0
@@ -80,13 +81,13 @@ module _ (l : List (List ℕ)) where
 
   pub length-packed : length (packed l) ≡ 4 * length l + length (joined l)
   unfolding packed
-  length-packed = simp (length-append, length-pairs)
+  length-packed = simp (length-append, length-pairs, length-map)
 
   -- byte x of section k
   pub packed-at : (k x : ℕ) → k < length l → x < length (getD l k []) → byteAt (packed l) (offset (packed l) k + x) ≡ getD (getD l k []) x 0
   packed-at k x h b =
-      let e : offset (packed l) k + x ≡ length (pairs (4 * length l) l) + (start 0 l k + x) = omega (arith, packed-offset k h, length-pairs l (4 * length l)) in
-      rw e (unfold packed in getD-append-add (pairs (4 * length l) l) (joined l) (start 0 l k + x) 0 ∙ joined-at l k x b)
+      let e : offset (packed l) k + x ≡ length (pairs (4 * length l) (map length l)) + (start 0 l k + x) = omega (arith, packed-offset k h, length-pairs (map length l) (4 * length l), length-map l length) in
+      rw e (unfold packed in getD-append-add (pairs (4 * length l) (map length l)) (joined l) (start 0 l k + x) 0 ∙ joined-at l k x b)
 
   -- section k is element k
   pub packed-section : (k : ℕ) → k < length l → section (packed l) k ≡ getD l k []

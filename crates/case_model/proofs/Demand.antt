@@ -12,23 +12,26 @@ use lib.ListN.{length}
 use Rattle.flc.specs.Sets.{has}
 use Rattle.flc.specs.Bisimulation.{alike}
 use Rattle.flc.proofs.Masks.{setOf-lt}
-use Rattle.case_model.specs.Case.{Triple, Case, read, write, table}
-use Rattle.case_model.specs.Rows.{Found, sound, refused, _orElse_, unless, row8, mostNodes, refusals}
-use Rattle.case_model.specs.Replies.{Reply, answers, refuses, replied}
+use Rattle.case_model.specs.Case.{Case, read, write, table}
+use Rattle.case_model.specs.Kinds.{Triple}
+use Rattle.case_model.specs.Rows.{Found, sound, refused, _orElse_, unless, row8, refusals}
+use Rattle.case_model.specs.Limits.{mostNodes, standard}
+use Rattle.case_model.specs.Replies.{Reply, answers, refuses, replied, row13}
 use Rattle.case_model.specs.Judging.{verdict, row9}
-use Rattle.case_model.specs.Merging.{row13, moved, merge, row10, merging}
+use Rattle.case_model.specs.Merging.{moved, merge, row10, merging}
 use Rattle.case_model.specs.Rewriting.{Change, nothing, swap, change, isThere, rewrite, rewriting}
 use Rattle.case_model.specs.Book.{Edit, merges, rewrites, Book, begun, reply, restood, entered, turn, book}
 use Rattle.case_model.specs.Run.{allStates, holds}
 use Rattle.case_model.proofs.Tests.{and-l, and-r}
 use Rattle.case_model.proofs.Sections.{left-sound, right-sound, unless-sound}
-use Rattle.case_model.proofs.Valid.{Valid, accepted-valid}
+use Rattle.case_model.proofs.Valid.{accepted-valid}
+use Rattle.case_model.specs.Valid.{Valid}
 use Rattle.case_model.proofs.Judged.{judging-answers}
 use Rattle.case_model.proofs.Codec.{read-write}
 use Rattle.case_model.proofs.Accepting.{valid-accepted}
 use Rattle.case_model.proofs.Merged.{merge-valid, moved-in, merge-holds}
 use Rattle.case_model.proofs.Unlike.{alike-turned}
-use Rattle.case_model.proofs.Rewritten.{rewrite-holds, rewrite-valid}
+use Rattle.case_model.proofs.Rewritten.{rewrite-holds, rewritten-valid}
 
 -- state s is in the verdict on the set of all states
 unfoldable pub satisfied : Case → ℕ → Bool
@@ -36,12 +39,12 @@ satisfied c s = has (verdict c (allStates c) .set) s
 
 -- the state g s of the last file stands for the state s of the first
 pub record Stands (first last : List ℕ) (g : ℕ → ℕ) : Type 0 where
-  pub accepted : refusals last ≡ sound
+  pub accepted : refusals standard last ≡ sound
   pub within : (s : ℕ) → s < length (read first .labels) → g s < length (read last .labels)
   pub same : (s : ℕ) → s < length (read first .labels) → satisfied (read first) s ≡ satisfied (read last) (g s)
 
 -- a valid case is written as such a file
-written-stands : (f : List ℕ) (c : Case) (g : ℕ → ℕ) → Valid c
+written-stands : (f : List ℕ) (c : Case) (g : ℕ → ℕ) → Valid standard c
     → ((s : ℕ) → s < length (read f .labels) → g s < length (c .labels))
     → ((s : ℕ) → s < length (read f .labels) → satisfied (read f) s ≡ satisfied c (g s)) → Stands f (write c) g
 written-stands f c g valid within same = record {
@@ -56,7 +59,7 @@ answered sound a v e = (refl, cc)
 answered (refused k p) a v e = (cc, cc)
 
 -- judging says so of an accepted file with work area enough
-judged : (f : List ℕ) (words s : ℕ) → refusals f ≡ sound → row9 (read f) words ≡ sound → holds f words s ≡ satisfied (read f) s
+judged : (f : List ℕ) (words s : ℕ) → refusals standard f ≡ sound → row9 (read f) words ≡ sound → holds f words s ≡ satisfied (read f) s
 unfolding holds satisfied
 judged f words s ok enough =
     rw (judging-answers f (allStates (read f)) words ok (setOf-lt (length (read f .labels)) (λ s. true)) enough)
@@ -64,12 +67,12 @@ judged f words s ok enough =
 -- from a chain of rows that found nothing to each part of each test
 ruleset rows = (left-sound, right-sound, unless-sound, and-l, and-r)
 
-module _ (f : List ℕ) (ok : refusals f ≡ sound) where
+module _ (f : List ℕ) (ok : refusals standard f ≡ sound) where
   abbrev c : Case
   c = read f
 
-  valid : Valid c
-  valid = accepted-valid f ok
+  valid : Valid standard c
+  valid = accepted-valid standard f ok
 
   -- ---- an accepted merge
   -- of k, the lower, and r
@@ -85,7 +88,7 @@ module _ (f : List ℕ) (ok : refusals f ≡ sound) where
   merging-stands s t room new e =
       let n : ℕ = length (c .labels) in
       let made : List ℕ = write (merge c (min s t) (max s t)) in
-      let (x, q) = answered (refusals f orElse row8 s n orElse row8 t n orElse row10 c s t orElse row13 made room) made new e in
+      let (x, q) = answered (refusals standard f orElse row8 s n orElse row8 t n orElse row10 c s t orElse row13 made room) made new e in
       let i : s < length (c .labels) = ltb-true _ _ (search rows depth 10) in
       let j : t < length (c .labels) = ltb-true _ _ (search rows depth 10) in
       let n : s ≡ t → ⊥ = eqb-false s t (not-true (eqb s t) (search rows depth 10)) in
@@ -113,8 +116,8 @@ module _ (f : List ℕ) (ok : refusals f ≡ sound) where
       → Stands f (write (rewrite c j (swap l g))) (λ s. s)
   unfolding satisfied verdict rewrite
   rewrite-stands law j {l} {g} is few =
-      written-stands f (rewrite c j (swap l g)) (λ s. s) (rewrite-valid valid law j is few) (λ s i. i)
-      (λ s i. ap (λ x. has x s) (rewrite-holds valid law j is (allStates c) (setOf-lt (length (c .labels)) _)))
+      written-stands f (rewrite c j (swap l g)) (λ s. s) (rewritten-valid valid law j is few) (λ s i. i)
+      (λ s i. ap (λ x. has x s) (rewrite-holds (valid .rule) law j is (allStates c) (setOf-lt (length (c .labels)) _)))
 
   -- what was answered was there
   rewriting-stands : (law j room : ℕ) (new : List ℕ) → rewriting f law j room ≡ answers new → Stands f new (λ s. s)
@@ -122,7 +125,7 @@ module _ (f : List ℕ) (ok : refusals f ≡ sound) where
   rewriting-stands law j room new = go (change (c .nodes) law j) refl
     where
       go : (e : Change) → change (c .nodes) law j ≡ e
-          → replied (refusals f orElse unless (isThere e) 11 0 orElse unless (leb (length (rewrite c j e .nodes)) mostNodes) 12 0 orElse row13 (write (rewrite c j e)) room)
+          → replied (refusals standard f orElse unless (isThere e) 11 0 orElse unless (leb (length (rewrite c j e .nodes)) mostNodes) 12 0 orElse row13 (write (rewrite c j e)) room)
           (write (rewrite c j e)) ≡ answers new
           → Stands f new (λ s. s)
       go nothing is e =
@@ -131,7 +134,7 @@ module _ (f : List ℕ) (ok : refusals f ≡ sound) where
           absurd (omega arith)
       go (swap l g) is e =
           let d : Case = rewrite c j (swap l g) in
-          let (x, q) = answered (refusals f orElse sound orElse unless (leb (length (d .nodes)) mostNodes) 12 0 orElse row13 (write d) room) (write d) new e in
+          let (x, q) = answered (refusals standard f orElse sound orElse unless (leb (length (d .nodes)) mostNodes) 12 0 orElse row13 (write d) room) (write d) new e in
           let few : length (d .nodes) ≤ mostNodes = leb-true _ _ (search rows depth 10) in
           subst (λ z. Stands f z (λ s. s)) q (rewrite-stands law j is few)
 
@@ -160,11 +163,11 @@ unfolding book
 edits-stand first b [] S = S
 edits-stand first b (e ∷ l) S = edits-stand first (turn b e) l (turn-stands first b e S)
 
-pub book-stands : (first : List ℕ) → refusals first ≡ sound → (l : List Edit) → Stands first (book (begun first) l .file) (book (begun first) l .standing)
+pub book-stands : (first : List ℕ) → refusals standard first ≡ sound → (l : List Edit) → Stands first (book (begun first) l .file) (book (begun first) l .standing)
 book-stands first ok l = edits-stand first (begun first) l (record { accepted = ok; within = λ s i. i; same = λ s i. refl })
 
 -- over judging itself
-pub stands-judged : {first last : List ℕ} {g : ℕ → ℕ} → refusals first ≡ sound → Stands first last g → (words words′ : ℕ)
+pub stands-judged : {first last : List ℕ} {g : ℕ → ℕ} → refusals standard first ≡ sound → Stands first last g → (words words′ : ℕ)
     → row9 (read first) words ≡ sound → row9 (read last) words′ ≡ sound
     → (s : ℕ) → s < length (read first .labels) → holds first words s ≡ holds last words′ (g s)
 stands-judged {first} {last} {g} ok S words words′ e e′ s i =

@@ -8,7 +8,8 @@ use Rattle.flc.specs.Sets.{both, either, forAll, forSome, first}
 use Rattle.flc.specs.Formula.{free}
 use Rattle.flc.specs.Nodes.{lower, formulaAt}
 use Rattle.case_model.specs.Bytes.{listOf, chained, pairsHold, section, packed}
-use Rattle.case_model.specs.Case.{Triple, flat, write, kinds, nodeOf, nodeAt, rule}
+use Rattle.case_model.specs.Case.{flat, write, nodeAt, rule}
+use Rattle.case_model.specs.Kinds.{Triple, kinds, kindAt}
 use Rattle.case_model.specs.Rows.{lowest, rootClosed, refusals}
 use Rattle.case_model.specs.Replies.{answers, refuses, vetting, opening}
 
@@ -53,7 +54,7 @@ rows :
     × (vetting (caseOf labels steps nodes 4) 0 ≡ refuses 7 0)
     × (vetting (caseOf labels steps nodes 5) 0 ≡ answers (record { states = 2; nodes = 10 }))
     × (vetting F 3 ≡ refuses 8 0)
-unfolding write packed vetting refusals pairsHold chained section listOf lowest first forAll forSome both either rootClosed rule formulaAt lower nodeAt nodeOf kinds free
+unfolding write packed vetting refusals pairsHold chained section listOf lowest first forAll forSome both either rootClosed rule formulaAt lower nodeAt kindAt kinds free
 rows = (refl, refl, refl, refl, refl, refl, refl, refl, refl, refl, refl, refl, refl, refl)
 
 -- row 1: each section begins where the one before ends, and the last ends with the file. One state, no steps, τ; then a byte left between two sections, and one after the last
@@ -61,7 +62,7 @@ chains :
     (vetting (12 ∷ 0 ∷ 1 ∷ 0 ∷ 13 ∷ 0 ∷ 0 ∷ 0 ∷ 13 ∷ 0 ∷ 4 ∷ 0 ∷ 0 ∷ 5 ∷ 0 ∷ 0 ∷ 0 ∷ []) 0 ≡ answers (record { states = 1; nodes = 1 }))
     × (vetting (12 ∷ 0 ∷ 1 ∷ 0 ∷ 13 ∷ 0 ∷ 0 ∷ 0 ∷ 14 ∷ 0 ∷ 4 ∷ 0 ∷ 0 ∷ 0 ∷ 5 ∷ 0 ∷ 0 ∷ 0 ∷ []) 0 ≡ refuses 1 0)
     × (vetting (12 ∷ 0 ∷ 1 ∷ 0 ∷ 13 ∷ 0 ∷ 0 ∷ 0 ∷ 13 ∷ 0 ∷ 4 ∷ 0 ∷ 0 ∷ 5 ∷ 0 ∷ 0 ∷ 0 ∷ 0 ∷ []) 0 ≡ refuses 1 0)
-unfolding vetting refusals pairsHold chained section listOf lowest first forAll forSome both either rootClosed rule formulaAt lower nodeAt nodeOf kinds free
+unfolding vetting refusals pairsHold chained section listOf lowest first forAll forSome both either rootClosed rule formulaAt lower nodeAt kindAt kinds free
 chains = (refl, refl, refl)
 
 -- where two rows are met, the lower number is told
@@ -73,10 +74,10 @@ rising :
     × (vetting (caseOf labels steps (set (set nodes 4 (12, 0, 3)) 5 (6, 8, 0)) 9) 0 ≡ refuses 5 5)
     × (vetting (caseOf labels steps (set nodes 4 (12, 0, 3)) 1) 0 ≡ refuses 6 9)
     × (vetting (caseOf labels steps nodes 4) 3 ≡ refuses 7 0)
-unfolding write packed vetting refusals pairsHold chained section listOf lowest first forAll forSome both either rootClosed rule formulaAt lower nodeAt nodeOf kinds free
+unfolding write packed vetting refusals pairsHold chained section listOf lowest first forAll forSome both either rootClosed rule formulaAt lower nodeAt kindAt kinds free
 rising = (refl, refl, refl, refl, refl, refl, refl)
 
 -- an opened section is its bytes; a refusal opens nothing
 parts : (opening F 1 ≡ 0 ∷ 0 ∷ 1 ∷ 1 ∷ 1 ∷ 1 ∷ []) × (opening F 3 ≡ [])
-unfolding write packed vetting opening refusals pairsHold chained section listOf lowest first forAll forSome both either rootClosed rule formulaAt lower nodeAt nodeOf kinds free
+unfolding write packed vetting opening refusals pairsHold chained section listOf lowest first forAll forSome both either rootClosed rule formulaAt lower nodeAt kindAt kinds free
 parts = (refl, refl)

@@ -11,22 +11,25 @@ use lib.ListN.{length}
 use Rattle.flc.specs.Sets.{has}
 use Rattle.flc.specs.Functions.{Fun}
 use Rattle.flc.specs.Formula.{Table, Formula, fix, put, mean, none}
-use Rattle.flc.specs.Nodes.{Node, leaf, two, bind, tree, lower, formulaAt, roundsOf, roundsAt}
-use Rattle.flc.proofs.Order.{Good, monotone-use, monotone-mk, below-use, below-mk, agree-use, agree-mk}
+use Rattle.flc.specs.Nodes.{Node, leaf, two, bind, tree, lower, formulaAt, roundsOf, roundsAt, Names}
+use Rattle.flc.proofs.Order.{monotone-use, monotone-mk, below-use, below-mk, agree-use, agree-mk}
+use Rattle.flc.specs.Order.{Good}
 use Rattle.flc.proofs.FixedPoints.{Steady}
 use Rattle.flc.proofs.Rounds.{rounds-le, rounds-stand, rounds-first}
 use Rattle.flc.proofs.Meanings.{none-good, mean-small, mean-steady, mu-iff, nu-iff}
-use Rattle.flc.proofs.Unfolding.{Names, lower-at, formulaAt-node}
+use Rattle.flc.proofs.Unfolding.{lower-at, formulaAt-node}
+use Rattle.case_model.specs.Limits.{standard}
 use Rattle.case_model.specs.Case.{Case, read, table, nodeAt, rule}
 use Rattle.case_model.specs.Rows.{sound, refusals}
 use Rattle.case_model.specs.Replies.{answers}
 use Rattle.case_model.specs.Judging.{verdict, row9, judging}
 use Rattle.case_model.specs.Decision.{Monotone, InFixed, FirstStill, Decides, Decided}
-use Rattle.case_model.proofs.Valid.{Valid, accepted-valid}
+use Rattle.case_model.proofs.Valid.{accepted-valid}
+use Rattle.case_model.specs.Valid.{Valid}
 use Rattle.case_model.proofs.Nodes.{node-lower}
 
 -- an accepted file with work area enough is answered at every set of its states
-pub judging-answers : (f : List ℕ) (x words : ℕ) → refusals f ≡ sound → x < 2 ^ length (read f .labels) → row9 (read f) words ≡ sound
+pub judging-answers : (f : List ℕ) (x words : ℕ) → refusals standard f ≡ sound → x < 2 ^ length (read f .labels) → row9 (read f) words ≡ sound
     → judging f x words ≡ answers (verdict (read f) x)
 unfolding judging
 judging-answers f x words ok i enough = simp (ok, enough, lt-ltb _ _ i)
@@ -79,12 +82,12 @@ rounds-lower L N j (two o a b) h = refl
 rounds-lower L N j (bind d v b) h = ap (λ p. roundsOf L (bind d v b) (λ i. p)) (lower-at N j b (h b refl))
 
 -- ---- the answer
-pub demand-2 : (f : List ℕ) (x words : ℕ) → refusals f ≡ sound → x < 2 ^ length (read f .labels) → row9 (read f) words ≡ sound → Decided f x words
+pub demand-2 : (f : List ℕ) (x words : ℕ) → refusals standard f ≡ sound → x < 2 ^ length (read f .labels) → row9 (read f) words ≡ sound → Decided f x words
 unfolding verdict table rule roundsAt
 demand-2 f x words ok i enough =
     let c : Case = read f in
-    let valid : Valid c = accepted-valid f ok in
-    let low = node-lower valid (c .root) (valid .root) in
+    let valid : Valid standard c = accepted-valid standard f ok in
+    let low = node-lower (valid .rule) (c .root) (valid .rule .root) in
     record {
       verdict = verdict c x;
       answered = judging-answers f x words ok i enough;

@@ -9,9 +9,9 @@ use native.Mathlib.Nat.{not-suc-le-zero}
 use native.Mathlib.Omega.{arith}
 use lib.Dec.{T}
 use Rattle.flc.specs.Formula.{Table, Atom, tau, Op, chop, Formula, atom, op, fix, free}
-use Rattle.flc.specs.Nodes.{Node, leaf, two, bind, tree, formulaAt}
+use Rattle.flc.specs.Nodes.{Node, leaf, two, bind, tree, formulaAt, Names}
 use Rattle.flc.proofs.Tests.{both-left, both-right, both-mk, either-use, either-left, either-right}
-use Rattle.flc.proofs.Unfolding.{Names, Lower, formulaAt-node}
+use Rattle.flc.proofs.Unfolding.{Lower, formulaAt-node}
 use Rattle.flc.proofs.Laws.{Same, Constant, Pointwise, same-refl, same-sym, same-trans, same-op, same-fix, law-1, law-2, law-3, law-4, law-6, law-8, law-9}
 
 -- clause 5.1: laws 6 and 7 in one line, and so 8 and 9 for or and and

@@ -2,10 +2,11 @@ pub mod Examples
 pub mod EditExamples
 pub mod Lists
 pub mod Tests
+pub mod Laying
+pub mod Filling
 pub mod Sections
 pub mod Codec
-pub mod NodeKinds
-pub mod Frees
+pub mod KindLines
 pub mod Valid
 pub mod Steps
 pub mod Nodes

@@ -1,11 +1,11 @@
 -- Lists made by `listOf` from a function on positions: their length, their elements, and when two are equal.
 -- By induction over the length; a part of another list, by comparing elements.
 use Prim.Native.Nat.{ℕ, zero, suc, _+_, _≤_, _<_, suc-le-suc}
-use mathlib.Core.List.{List, [], _∷_}
+use mathlib.Core.List.{List, [], _∷_, _++_}
 use mathlib.Core.Path.{_≡_, refl, sym, ap, _∙_}
 use native.Mathlib.Omega.{arith}
 use native.Mathlib.Nat.{not-suc-le-zero, le-of-suc-le-suc, zero-lt-suc}
-use lib.ListN.{length, getD, take, drop, length-drop}
+use lib.ListN.{length, getD, replicate, take, drop, length-drop}
 use lib.Seq.{getD-take, getD-drop, length-take-le}
 use Rattle.case_model.specs.Bytes.{listOf}
 -- checked first: a slip in a definition is told as a false equation there
@@ -50,3 +50,15 @@ module _ {ℓ} {A : Type ℓ} where
       let e : length (take n (drop a l)) ≡ n = length-take-le n (drop a l) (simp length-drop (omega arith)) in
       listOf-ext n _ (λ i. getD (take n (drop a l)) i d) (λ i k. sym (getD-take n (drop a l) i d k ∙ getD-drop a l i d))
       ∙ ap (λ m. listOf m (λ i. getD (take n (drop a l)) i d)) (sym e) ∙ listOf-getD (take n (drop a l)) d
+
+  -- one element more, at the end
+  pub listOf-more : (k : ℕ) (h : ℕ → A) → listOf (suc k) h ≡ listOf k h ++ (h k ∷ [])
+  unfolding listOf
+  listOf-more zero h = refl
+  listOf-more (suc k) h = ap (λ l. h zero ∷ l) (listOf-more k (λ i. h (suc i)))
+
+-- a list of zeros
+pub zeros : (k i : ℕ) → getD (replicate k zero) i zero ≡ zero
+zeros zero i = refl
+zeros (suc k) zero = refl
+zeros (suc k) (suc i) = zeros k i

@@ -18,11 +18,12 @@ use Rattle.flc.proofs.Masks.{has-setOf, setOf-lt, setOf-ext}
 use Rattle.flc.proofs.Meanings.{none-good}
 use Rattle.flc.proofs.Invariance.{Matched, Bisim, mean-kept}
 use Rattle.flc.proofs.Alikeness.{Acts, Holds, alike-bisim, alike-refl, alike-sym, alike-trans}
+use Rattle.case_model.specs.Limits.{standard}
 use Rattle.case_model.specs.Case.{Case, write, listed, table, nodeAt, rule}
 use Rattle.case_model.specs.Rows.{sound, stepWrong, rootClosed, refusals}
 use Rattle.case_model.specs.Merging.{moved, movedSteps, merge}
 use Rattle.case_model.specs.Run.{allStates}
-use Rattle.case_model.proofs.Valid.{Valid}
+use Rattle.case_model.specs.Valid.{ValidTable, Valid}
 use Rattle.case_model.proofs.Steps.{InRange, listed-in}
 use Rattle.case_model.proofs.Accepting.{valid-accepted}
 use Rattle.case_model.proofs.StepOrder.{inOrder-next, listed-inOrder, inOrder-in, steps-right}
@@ -37,7 +38,7 @@ unfoldable pub carried : Case → ℕ → ℕ → ℕ
 carried c r x = setOf (length (c .labels) - 1) (λ u. has x (stays r u))
 
 -- the table of a valid case has steps of actions 0 to 7 only
-pub valid-acts : {c : Case} → Valid c → Acts (table c)
+pub valid-acts : {most : ℕ} {c : Case} → ValidTable most c → Acts (table c)
 unfolding table
 valid-acts valid s a t h = listed-in valid s a t h .action
 
@@ -46,7 +47,7 @@ none-in : (s t : ℕ) → has 0 s ≡ has 0 t
 unfolding has
 none-in s t = rw (zero-div (2 ^ s), zero-div (2 ^ t))
 
-module _ {c : Case} (valid : Valid c) (k r : ℕ) (kr : k < r) (rn : r < length (c .labels)) where
+module _ {c : Case} (valid : Valid standard c) (k r : ℕ) (kr : k < r) (rn : r < length (c .labels)) where
   -- ---- the table: one state fewer, its label, its steps
   merge-states : length (merge c k r .labels) ≡ length (c .labels) - 1
   unfolding merge
@@ -74,12 +75,12 @@ module _ {c : Case} (valid : Valid c) (k r : ℕ) (kr : k < r) (rn : r < length 
   step-in : (u a w : ℕ) → T (step u a w) → InRange (length (c .labels) - 1) (u, a, w)
   step-in u a w h =
       let (t, m, v) = movedSteps-use k r (c .steps) u a w h in
-      let i = listed-in valid (stays r u) a t v in
+      let i = listed-in (valid .table) (stays r u) a t v in
       record { from = lt-stays r u _ rn (i .from); action = i .action; to = rw (← m) (moved-lt k r _ t kr rn (i .to)) }
 
   merge-listed : (u a w : ℕ) → table (merge c k r) .step u a w ≡ step u a w
   unfolding table merge
-  merge-listed = listed-inOrder step (length (c .labels) - 1) (omega (arith, valid .few)) step-in
+  merge-listed = listed-inOrder step (length (c .labels) - 1) (omega (arith, valid .table .few)) step-in
 
   pub merge-step : (u a w : ℕ) → T (table (merge c k r) .step u a w) ↔ ((t : ℕ) × (moved k r t ≡ w) × T (table c .step (stays r u) a t))
   unfolding table
@@ -93,29 +94,29 @@ module _ {c : Case} (valid : Valid c) (k r : ℕ) (kr : k < r) (rn : r < length 
   merge-rule = refl
 
   merge-few : length (merge c k r .labels) ≤ 16
-  merge-few = rw merge-states (omega (arith, valid .few))
+  merge-few = rw merge-states (omega (arith, valid .table .few))
 
   -- row 3
   merge-steps : (i : ℕ) → i < length (merge c k r .steps) → stepWrong (merge c k r) i ≡ false
   merge-steps =
       steps-right (merge c k r) merge-few
-      (rw merge-states (unfold merge in inOrder-in step (length (c .labels) - 1) (omega (arith, valid .few)) step-in))
+      (rw merge-states (unfold merge in inOrder-in step (length (c .labels) - 1) (omega (arith, valid .table .few)) step-in))
       (unfold merge in inOrder-next step)
 
-  pub merge-valid : Valid (merge c k r)
+  pub merge-valid : Valid standard (merge c k r)
   merge-valid = record {
-    some = rw merge-states (omega arith);
-    few = merge-few;
-    steps = merge-steps;
-    most = unfold merge in valid .most;
-    root = unfold merge in valid .root;
-    kinds = unfold merge in valid .kinds;
-    binders = unfold merge in valid .binders;
-    closed = unfold rootClosed in rw merge-rule (valid .closed);
+    rule = record {
+      most = unfold merge in valid .rule .most;
+      root = unfold merge in valid .rule .root;
+      kinds = unfold merge in valid .rule .kinds;
+      binders = unfold merge nodeAt in valid .rule .binders;
+      closed = unfold rootClosed in rw merge-rule (valid .rule .closed);
+    };
+    table = record { some = rw merge-states (omega arith); few = merge-few; steps = merge-steps };
   }
 
   -- so it is written as an accepted file
-  pub merge-accepted : refusals (write (merge c k r)) ≡ sound
+  pub merge-accepted : refusals standard (write (merge c k r)) ≡ sound
   merge-accepted = valid-accepted (merge c k r) merge-valid
 
   -- a state of the old case goes to one of the new, and one of the new is from one of the old
@@ -136,7 +137,7 @@ module _ {c : Case} (valid : Valid c) (k r : ℕ) (kr : k < r) (rn : r < length 
     unfolding table
     stood s t i j a = elim (ℕ-discrete t r) [
       | yes e ↦ rw (e, moved-at k r, stays-low r k kr)
-          (alike-trans (table c) (valid-acts valid) s r k i rn (omega arith) (rw e at a) (alike-sym (table c) (valid-acts valid) k r (omega arith) rn kr-alike))
+          (alike-trans (table c) (valid-acts (valid .table)) s r k i rn (omega arith) (rw e at a) (alike-sym (table c) (valid-acts (valid .table)) k r (omega arith) rn kr-alike))
       | no n ↦ rw (stays-moved k r t n) a
     ]
 
@@ -147,13 +148,13 @@ module _ {c : Case} (valid : Valid c) (k r : ℕ) (kr : k < r) (rn : r < length 
     stands-bisim : Bisim (table c) (table (merge c k r)) Stands
     unfolding table
     stands-bisim s u i j h =
-        let P : Matched (table c) (table c) (Holds (alike (table c))) s (stays r u) = alike-bisim (table c) (valid-acts valid) s (stays r u) i (stays-in u j) h in
+        let P : Matched (table c) (table c) (Holds (alike (table c))) s (stays r u) = alike-bisim (table c) (valid-acts (valid .table)) s (stays r u) i (stays-in u j) h in
         record {
           labels = P .labels ∙ sym (merge-label u);
           forth = λ a s′ i′ e. let (t, l, v, w) = P .forth a s′ i′ e in (moved k r t, moved-in t l, merge-step u a (moved k r t) .1 (t, refl, v), stood s′ t i′ l w);
           back = λ a w j′ e.
               let (t, m, v) = merge-step u a w .0 e in
-              let l : t < length (c .labels) = listed-in valid (stays r u) a t v .to in
+              let l : t < length (c .labels) = listed-in (valid .table) (stays r u) a t v .to in
               let (s′, i′, x, y) = P .back a t l v in
               (s′, i′, x, subst (Stands s′) m (stood s′ t i′ l y));
         }

@@ -10,7 +10,8 @@ use borrow.Author.Tests.{lt-ltb, le-ltb, eq-eqb, ne-eqb}
 use lib.Dec.{T, eqb, ltb, eqb→eq, eqb-refl}
 use Rattle.flc.specs.Sets.{both}
 use Rattle.flc.proofs.Tests.{both-left, both-right, both-mk, either-use, either-left, either-right}
-use Rattle.case_model.specs.Case.{Triple, listed}
+use Rattle.case_model.specs.Case.{listed}
+use Rattle.case_model.specs.Kinds.{Triple}
 use Rattle.case_model.specs.Merging.{moved, movedSteps}
 
 -- the old number of the new state u

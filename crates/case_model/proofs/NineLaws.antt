@@ -1,72 +1,62 @@
 -- Each of the nine laws brings what a rewriting needs.
 -- The shapes say which operators stand at node j and below it; a lawful relation takes the left shape to the right one, then into the new nodes.
 use Prim.Native.Nat.{ℕ, zero, suc, _+_, _-_, _≤_, _<_}
-use mathlib.Core.Bool.{Bool, true, false, _&&_, cond}
+use mathlib.Core.Bool.{Bool, true, false, _&&_, _||_, cond}
 use mathlib.Core.List.{List, [], _∷_}
 use mathlib.Core.Logic.{inl, inr}
 use mathlib.Core.Path.{_≡_, refl, ap, _∙_}
 use native.Mathlib.Decide.{decLt, ℕ-discrete}
 use native.Mathlib.Omega.{arith}
 use borrow.Author.Tests.{leb-true, eqb-true, lt-ltb, le-ltb, eq-eqb, ne-eqb}
-use lib.Dec.{eqb, leb}
+use lib.Dec.{eqb}
 use lib.ListN.{length, List·getD-eq-default}
 use Rattle.flc.specs.Formula.{Atom, top, bottom, tau, prop, nprop, Op, or, and, chop, Formula, atom, op}
 use Rattle.flc.specs.Nodes.{leaf, two, tree, formulaAt}
 use Rattle.flc.proofs.Unfolding.{formulaAt-node}
 use Rattle.flc.proofs.Laws.{Constant, Pointwise}
-use Rattle.case_model.specs.Case.{Triple, Case, at, kinds, nodeOf, nodeAt}
+use Rattle.case_model.specs.Case.{Case, at, nodeAt}
+use Rattle.case_model.specs.Kinds.{Triple, kinds, kindOf, kindOfTau, lastConstant, kindAt, nodeOf}
 use Rattle.case_model.specs.Rewriting.{Change, nothing, swap, redirected, shifted, change}
 use Rattle.case_model.proofs.Tests.{and-l, and-r}
+use Rattle.case_model.proofs.KindLines.{node-op}
 use Rattle.case_model.proofs.Nodes.{node-lower}
-use Rattle.case_model.proofs.Valid.{Valid}
+use Rattle.case_model.specs.Valid.{ValidRule}
 use Rattle.case_model.proofs.Lawful.{Lawful}
 use Rattle.case_model.proofs.RenamedNodes.{Pair, Pairs}
 use Rattle.case_model.proofs.Swapped.{Becomes, Fit}
 
--- ---- kinds as operators
-abbrev kindOf : Op → ℕ
-kindOf or = 8
-kindOf and = 9
-kindOf chop = 10
-
--- a node of an operator's kind
-node-op : (o : Op) (t : Triple) → t .0 ≡ kindOf o → nodeOf t ≡ two o (t .1) (t .2)
-unfolding nodeOf kinds
-node-op or t e = rw e
-node-op and t e = rw e
-node-op chop t e = rw e
-
--- an operator's kind is from 8 to 10
-kind-pair : (o : Op) → (8 ≤ kindOf o) × (kindOf o ≤ 10)
-kind-pair or = (omega arith, omega arith)
-kind-pair and = (omega arith, omega arith)
-kind-pair chop = (omega arith, omega arith)
-
--- a node of kind 5, and one of kinds 0 to 3
-node-tau : (t : Triple) → t .0 ≡ 5 → nodeOf t ≡ leaf (atom tau)
-unfolding nodeOf kinds
+-- ---- kinds that the laws name
+-- a node of τ's kind, and one of a constant's
+node-tau : (t : Triple) → t .0 ≡ kindOfTau → nodeOf t ≡ leaf (atom tau)
+unfolding kindAt kinds
 node-tau t e = rw e
 
-node-constant : (t : Triple) → t .0 ≤ 3 → (q : Atom) × Constant q × (nodeOf t ≡ leaf (atom q))
-unfolding nodeOf kinds
+node-constant : (t : Triple) → t .0 ≤ lastConstant → (q : Atom) × Constant q × (nodeOf t ≡ leaf (atom q))
+unfolding kindAt kinds
 node-constant (zero, a, b) h = (top, tt, refl)
 node-constant (suc zero, a, b) h = (bottom, tt, refl)
 node-constant (suc (suc zero), a, b) h = (prop a, tt, refl)
 node-constant (suc (suc (suc zero)), a, b) h = (nprop a, tt, refl)
 node-constant (suc (suc (suc (suc k))), a, b) h = absurd (omega arith)
 
+-- an operator's kind is not 0, that of a node past the end
+operator-some : (o : Op) → 0 < kindOf o
+operator-some or = omega arith
+operator-some and = omega arith
+operator-some chop = omega arith
+
 -- an or or an and
-pointwise : (k : ℕ) → (leb 8 k && leb k 9) ≡ true → (o : Op) × Pointwise o × (k ≡ kindOf o)
-pointwise k e =
-    let l : 8 ≤ k = leb-true 8 k (search and-l) in
-    let h : k ≤ 9 = leb-true k 9 (search and-r) in
-    elim (ℕ-discrete k 8) [ yes q ↦ (or, tt, q) | no n ↦ (and, tt, omega arith) ]
+pointwise : (k : ℕ) → (eqb k (kindOf or) || eqb k (kindOf and)) ≡ true → (o : Op) × Pointwise o × (k ≡ kindOf o)
+pointwise k e = elim (ℕ-discrete k (kindOf or)) [
+  | yes q ↦ (or, tt, q)
+  | no n ↦ (and, tt, eqb-true k (kindOf and) (rw (ne-eqb k (kindOf or) n) at e))
+]
 
 -- an operator of two nodes below j
 pair : (o : Op) {j k a b : ℕ} → k ≡ kindOf o → a < j → b < j → Pair j (k, a, b)
-pair o e p q = let k = kind-pair o in record { least = omega arith; most = omega arith; one = p; other = q }
+pair o e p q = record { operator = o; kind = e; one = p; other = q }
 
-module _ {c : Case} (valid : Valid c) where
+module _ {c : Case} (valid : ValidRule c) where
   abbrev N : List Triple
   N = c .nodes
 
@@ -104,7 +94,7 @@ module _ {c : Case} (valid : Valid c) where
       h : i < length N
       h = elim (decLt i (length N)) [
         | yes l ↦ l
-        | no l ↦ absurd (omega (arith, kind-pair o .0, ap (λ (t : Triple). t .0) (List·getD-eq-default N (0, 0, 0) {n = i} (omega arith))))
+        | no l ↦ absurd (omega (arith, operator-some o, ap (λ (t : Triple). t .0) (List·getD-eq-default N (0, 0, 0) {n = i} (omega arith))))
       ]
 
   module _ (j : ℕ) where
@@ -142,27 +132,27 @@ module _ {c : Case} (valid : Valid c) where
     -- ---- laws whose left shape is a chop
     module _ (J : IsOp chop j) where
       -- law 1: τ;A = A
-      fit-1 : at N a .0 ≡ 5 → Fit c j (at N j ∷ []) (redirected j b)
+      fit-1 : at N a .0 ≡ kindOfTau → Fit c j (at N j ∷ []) (redirected j b)
       fit-1 e =
           let t : f a ≡ atom tau = f-tree a (omega (arith, J .inside, J .one)) ∙ rw (node-tau (at N a) e) in
           redirects chop J b (J .other) (λ R K. rw (J .parts, t) (K .law1 (f b)))
 
       -- law 2: A;τ = A
-      fit-2 : at N b .0 ≡ 5 → Fit c j (at N j ∷ []) (redirected j a)
+      fit-2 : at N b .0 ≡ kindOfTau → Fit c j (at N j ∷ []) (redirected j a)
       fit-2 e =
           let t : f b ≡ atom tau = f-tree b (omega (arith, J .inside, J .other)) ∙ rw (node-tau (at N b) e) in
           redirects chop J a (J .one) (λ R K. rw (J .parts, t) (K .law2 (f a)))
 
       -- law 3: q;A = q
-      fit-3 : at N a .0 ≤ 3 → Fit c j (at N j ∷ []) (redirected j a)
+      fit-3 : at N a .0 ≤ lastConstant → Fit c j (at N j ∷ []) (redirected j a)
       fit-3 e =
           let (q, k, n) = node-constant (at N a) e in
           let t : f a ≡ atom q = f-tree a (omega (arith, J .inside, J .one)) ∙ rw n in
           redirects chop J a (J .one) (λ R K. rw (J .parts, t) (K .law3 q k (f b)))
 
       -- law 4: (A;B);C = A;(B;C)
-      fit-4 : IsOp chop a → Fit c j ((10, at N a .2, b) ∷ (10, at N a .1, j) ∷ []) (shifted j 1)
-      unfolding nodeOf kinds
+      fit-4 : IsOp chop a → Fit c j ((kindOf chop, at N a .2, b) ∷ (kindOf chop, at N a .1, j) ∷ []) (shifted j 1)
+      unfolding kindAt kinds
       fit-4 X =
           let p : at N a .1 < j = omega (arith, J .one, X .one) in
           let q : at N a .2 < j = omega (arith, J .one, X .other) in
@@ -173,8 +163,8 @@ module _ {c : Case} (valid : Valid c) where
           (K .then _ _ _ (K .law4 _ _ _) (K .in-op chop _ _ _ _ (ih _ p) (K .in-op chop _ _ _ _ (ih _ q) (ih b (J .other))))))
 
       -- law 5: A;(B;C) = (A;B);C
-      fit-5 : IsOp chop b → Fit c j ((10, a, at N b .1) ∷ (10, j, at N b .2) ∷ []) (shifted j 1)
-      unfolding nodeOf kinds
+      fit-5 : IsOp chop b → Fit c j ((kindOf chop, a, at N b .1) ∷ (kindOf chop, j, at N b .2) ∷ []) (shifted j 1)
+      unfolding kindAt kinds
       fit-5 Y =
           let p : at N b .1 < j = omega (arith, J .other, Y .one) in
           let q : at N b .2 < j = omega (arith, J .other, Y .other) in
@@ -185,8 +175,8 @@ module _ {c : Case} (valid : Valid c) where
           (K .then _ _ _ (K .law5 _ _ _) (K .in-op chop _ _ _ _ (K .in-op chop _ _ _ _ (ih a (J .one)) (ih _ p)) (ih _ q))))
 
       -- law 6: (A or B);C = (A;C) or (B;C); for and it is law 7
-      fit-6 : (o : Op) → Pointwise o → IsOp o a → Fit c j ((10, at N a .1, b) ∷ (10, at N a .2, b) ∷ (kindOf o, j, suc j) ∷ []) (shifted j 2)
-      unfolding nodeOf kinds
+      fit-6 : (o : Op) → Pointwise o → IsOp o a → Fit c j ((kindOf chop, at N a .1, b) ∷ (kindOf chop, at N a .2, b) ∷ (kindOf o, j, suc j) ∷ []) (shifted j 2)
+      unfolding kindAt kinds
       fit-6 o w X =
           let p : at N a .1 < j = omega (arith, J .one, X .one) in
           let q : at N a .2 < j = omega (arith, J .one, X .other) in
@@ -227,14 +217,14 @@ given : (c : Case) (j : ℕ) (l : List Triple) (g : ℕ → ℕ) (t : Bool) → 
 given c j l g true h = brings-fit (h refl)
 given c j l g false h = no-change
 
-module _ {c : Case} (valid : Valid c) (j : ℕ) where
+module _ {c : Case} (valid : ValidRule c) (j : ℕ) where
   -- the row of a law for chops, and of one for or and and
-  at-chop : (t : Bool) (l : List Triple) (g : ℕ → ℕ) → (IsOp valid chop j → t ≡ true → Fit c j l g) → Brings c j (cond (eqb (at (c .nodes) j .0) 10 && t) (swap l g) nothing)
-  at-chop t l g h = given c j l g (eqb (at (c .nodes) j .0) 10 && t) (λ e. h (is-op valid chop j (eqb-true _ 10 (search and-l))) (search and-r))
+  at-chop : (t : Bool) (l : List Triple) (g : ℕ → ℕ) → (IsOp valid chop j → t ≡ true → Fit c j l g) → Brings c j (cond (eqb (at (c .nodes) j .0) (kindOf chop) && t) (swap l g) nothing)
+  at-chop t l g h = given c j l g (eqb (at (c .nodes) j .0) (kindOf chop) && t) (λ e. h (is-op valid chop j (eqb-true _ (kindOf chop) (search and-l))) (search and-r))
 
   at-pair : (t : Bool) (l : List Triple) (g : ℕ → ℕ) → ((o : Op) → Pointwise o → IsOp valid o j → t ≡ true → Fit c j l g)
-      → Brings c j (cond (leb 8 (at (c .nodes) j .0) && leb (at (c .nodes) j .0) 9 && t) (swap l g) nothing)
-  at-pair t l g h = given c j l g (leb 8 (at (c .nodes) j .0) && leb (at (c .nodes) j .0) 9 && t) (λ e.
+      → Brings c j (cond ((eqb (at (c .nodes) j .0) (kindOf or) || eqb (at (c .nodes) j .0) (kindOf and)) && t) (swap l g) nothing)
+  at-pair t l g h = given c j l g ((eqb (at (c .nodes) j .0) (kindOf or) || eqb (at (c .nodes) j .0) (kindOf and)) && t) (λ e.
       let (o, w, k) = pointwise (at (c .nodes) j .0) (search and-l) in
       h o w (is-op valid o j k) (search and-r))
 
@@ -242,13 +232,13 @@ module _ {c : Case} (valid : Valid c) (j : ℕ) where
   pub brings : (law : ℕ) → Brings c j (change (c .nodes) law j)
   unfolding change
   brings zero = no-change
-  brings (suc zero) = at-chop _ _ _ (λ J e. fit-1 valid j J (eqb-true _ 5 e))
-  brings (suc (suc zero)) = at-chop _ _ _ (λ J e. fit-2 valid j J (eqb-true _ 5 e))
-  brings (suc (suc (suc zero))) = at-chop _ _ _ (λ J e. fit-3 valid j J (leb-true _ 3 e))
-  brings (suc (suc (suc (suc zero)))) = at-chop _ _ _ (λ J e. fit-4 valid j J (is-op valid chop _ (eqb-true _ 10 e)))
-  brings (suc (suc (suc (suc (suc zero))))) = at-chop _ _ _ (λ J e. fit-5 valid j J (is-op valid chop _ (eqb-true _ 10 e)))
-  brings (suc (suc (suc (suc (suc (suc zero)))))) = at-chop _ _ _ (λ J e. fit-6 valid j J or tt (is-op valid or _ (eqb-true _ 8 e)))
-  brings (suc (suc (suc (suc (suc (suc (suc zero))))))) = at-chop _ _ _ (λ J e. fit-6 valid j J and tt (is-op valid and _ (eqb-true _ 9 e)))
+  brings (suc zero) = at-chop _ _ _ (λ J e. fit-1 valid j J (eqb-true _ kindOfTau e))
+  brings (suc (suc zero)) = at-chop _ _ _ (λ J e. fit-2 valid j J (eqb-true _ kindOfTau e))
+  brings (suc (suc (suc zero))) = at-chop _ _ _ (λ J e. fit-3 valid j J (leb-true _ lastConstant e))
+  brings (suc (suc (suc (suc zero)))) = at-chop _ _ _ (λ J e. fit-4 valid j J (is-op valid chop _ (eqb-true _ (kindOf chop) e)))
+  brings (suc (suc (suc (suc (suc zero))))) = at-chop _ _ _ (λ J e. fit-5 valid j J (is-op valid chop _ (eqb-true _ (kindOf chop) e)))
+  brings (suc (suc (suc (suc (suc (suc zero)))))) = at-chop _ _ _ (λ J e. fit-6 valid j J or tt (is-op valid or _ (eqb-true _ (kindOf or) e)))
+  brings (suc (suc (suc (suc (suc (suc (suc zero))))))) = at-chop _ _ _ (λ J e. fit-6 valid j J and tt (is-op valid and _ (eqb-true _ (kindOf and) e)))
   brings (suc (suc (suc (suc (suc (suc (suc (suc zero)))))))) = at-pair _ _ _ (λ o w J e. fit-8 valid j o w J (eqb-true _ _ e))
   brings (suc (suc (suc (suc (suc (suc (suc (suc (suc zero))))))))) = given c j _ _ _ (λ e. let (o, w, k) = pointwise (at (c .nodes) j .0) e in fit-9 valid j o w (is-op valid o j k))
   brings (suc (suc (suc (suc (suc (suc (suc (suc (suc (suc i)))))))))) = no-change

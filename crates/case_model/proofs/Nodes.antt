@@ -1,39 +1,26 @@
 -- The nodes of a valid case: what each can be, and what follows for the nodes it names, for binders and for free variables.
 -- From the lines of the table of kinds, kind by kind; a variable of 16 and up stands in no node, so it is free in no tree.
 use Prim.Native.Nat.{ℕ, zero, suc, _≤_, _<_}
-use mathlib.Core.Bool.{Bool, true, false, _&&_, _||_, cond, or-false}
+use mathlib.Core.Bool.{Bool, true, false, _&&_, cond}
 use mathlib.Core.Logic.{inl, inr}
-use mathlib.Core.Path.{_≡_, sym, subst}
+use mathlib.Core.Path.{_≡_, sym, ap, subst}
 use native.Mathlib.Decide.{decLt}
 use native.Mathlib.Omega.{arith}
-use borrow.Author.Tests.{eqb-true, ltb-true, le-leb, lt-leb, eq-eqb, ne-eqb}
-use lib.Dec.{T, eqb, leb, ltb, eqb→eq, T-not}
+use borrow.Author.Tests.{eqb-true, ltb-true, eq-eqb}
+use lib.Dec.{T, eqb, ltb, eqb→eq, T-not}
 use lib.ListN.{length}
 use Rattle.flc.specs.Sets.{forSome}
 use Rattle.flc.specs.Formula.{Atom, Op, Formula, atom, var, free}
-use Rattle.flc.specs.Nodes.{Node, leaf, two, bind, tree, lower, formulaAt}
+use Rattle.flc.specs.Nodes.{Node, leaf, two, bind, tree, lower, formulaAt, Names}
 use Rattle.flc.proofs.Tests.{either-use, both-right, forAll-use, forSome-mk}
-use Rattle.flc.proofs.Unfolding.{Names, Lower}
-use Rattle.case_model.specs.Case.{Triple, Case, at, nodeOf, nodeAt, rule}
-use Rattle.case_model.specs.Rows.{variables, nodeHolds, binds, rootClosed}
+use Rattle.flc.proofs.Unfolding.{Lower}
+use Rattle.case_model.specs.Case.{Case, at, nodeAt, rule}
+use Rattle.case_model.specs.Kinds.{Triple, Kind, fits, kinds, kindAt, nodeOf, nodeHolds, isBinder}
+use Rattle.case_model.specs.Rows.{binds, rootClosed}
+use Rattle.case_model.specs.Limits.{variables}
 use Rattle.case_model.proofs.Tests.{is-true, and-l, and-r}
-use Rattle.case_model.proofs.NodeKinds.{Kind, constant, variable, pair, binder, beyond, kind}
-use Rattle.case_model.proofs.Valid.{Valid}
-
--- the two last lines of the table of kinds, where the others cannot apply
-pub high-holds : (j : ℕ) (x : Triple) → 8 ≤ x .0
-    → nodeHolds j x ≡ ((leb (x .0) 10 && ltb (x .1) j && ltb (x .2) j) || (leb 11 (x .0) && leb (x .0) 12 && ltb (x .1) variables && ltb (x .2) j))
-high-holds j x h =
-    rw (
-      lt-leb (x .0) 1 (omega arith),
-      le-leb 2 (x .0) (omega arith),
-      lt-leb (x .0) 3 (omega arith),
-      ne-eqb (x .0) 4 (λ e. omega arith),
-      ne-eqb (x .0) 5 (λ e. omega arith),
-      le-leb 6 (x .0) (omega arith),
-      lt-leb (x .0) 7 (omega arith),
-      le-leb 8 (x .0) h,
-    )
+use Rattle.case_model.proofs.KindLines.{Line, constant, variable, pair, binder, line, bind-operands}
+use Rattle.case_model.specs.Valid.{ValidRule}
 
 -- what node j can be
 pub data Fits (j : ℕ) : Node → Type 0 where
@@ -43,21 +30,14 @@ pub data Fits (j : ℕ) : Node → Type 0 where
   fits-binder : (d : Bool) (v b : ℕ) → v < variables → b < j → Fits j (bind d v b)
 
 -- a line of the table of kinds says so
-pub holds-fits : (j : ℕ) (x : Triple) → nodeHolds j x ≡ true → Fits j (nodeOf x)
-holds-fits j x e = go (nodeOf x) (kind x)
+pub holds-fits : (j : ℕ) (t : Triple) → nodeHolds j t ≡ true → Fits j (nodeOf t)
+holds-fits j t e = go (kindAt (t .0)) (line (t .0)) (and-r (ltb (t .0) (length kinds)) _ e)
   where
-    go : (n : Node) → Kind (x .0) (x .1) (x .2) n → Fits j n
-    go _ (constant y h n) = fits-constant y
-    go _ (variable q) =
-        let r : (ltb (x .1) variables && eqb (x .2) 0) ≡ true = simp or-false at (rw q at e) in
-        fits-variable (x .1) (ltb-true _ _ (search and-l))
-    go _ (pair o l h) =
-        let r : (ltb (x .1) j && ltb (x .2) j) ≡ true = rw (high-holds j x l, le-leb (x .0) 10 h, lt-leb 11 (x .0) (omega arith), or-false) at e in
-        fits-pair o (x .1) (x .2) (ltb-true _ _ (search and-l)) (ltb-true _ _ (search and-r))
-    go _ (binder d l h) =
-        let r : (ltb (x .1) variables && ltb (x .2) j) ≡ true = rw (high-holds j x (omega arith), lt-leb (x .0) 10 (omega arith), le-leb 11 (x .0) l, le-leb (x .0) 12 h) at e in
-        fits-binder d (x .1) (x .2) (ltb-true _ _ (search and-l)) (ltb-true _ _ (search and-r))
-    go _ (beyond l) = fits-constant _
+    go : (κ : Kind) → Line κ → (fits (κ .first) j (t .1) && fits (κ .second) j (t .2)) ≡ true → Fits j (κ .node (t .1) (t .2))
+    go _ (constant f x n) e = fits-constant (f (t .1))
+    go _ variable e = fits-variable (t .1) (ltb-true _ _ (search and-l))
+    go _ (pair o) e = fits-pair o (t .1) (t .2) (ltb-true _ _ (search and-l)) (ltb-true _ _ (search and-r))
+    go _ (binder d) e = fits-binder d (t .1) (t .2) (ltb-true _ _ (search and-l)) (ltb-true _ _ (search and-r))
 
 -- the nodes that it names
 pub fits-names : {j : ℕ} (n : Node) → Fits j n → (i : ℕ) → Names n i → i < j
@@ -75,18 +55,11 @@ fits-free w h _ (fits-variable v l) φ f t = let e = eqb→eq w v t in omega ari
 fits-free w h _ (fits-pair o a b p q) φ f t = either-use _ _ (f a) (f b) t
 fits-free w h _ (fits-binder d v b p q) φ f t = f b (both-right _ _ t)
 
--- a node that is a binder has a binder's kind and its variable
-bind-binds : (x : Triple) (d : Bool) (v b : ℕ) → nodeOf x ≡ bind d v b → binds x v ≡ true
-bind-binds x d v b e = go (nodeOf x) (kind x) e
-  where
-    go : (n : Node) → Kind (x .0) (x .1) (x .2) n → n ≡ bind d v b → binds x v ≡ true
-    go _ (constant y h n) e = cc
-    go _ (variable q) e = cc
-    go _ (pair o l h) e = cc
-    go _ (binder d l h) e = rw (le-leb 11 (x .0) l) (eq-eqb (x .1) v (cc))
-    go _ (beyond l) e = cc
+-- a node that is a binder binds its variable
+bind-binds : (t : Triple) (d : Bool) (v b : ℕ) → nodeOf t ≡ bind d v b → binds t v ≡ true
+bind-binds t d v b e = rw (ap isBinder e) (eq-eqb (t .1) v (bind-operands t e .0))
 
-module _ {c : Case} (valid : Valid c) where
+module _ {c : Case} (valid : ValidRule c) where
   pub node-fits : (j : ℕ) → j < length (c .nodes) → Fits j (nodeAt c j)
   unfolding nodeAt
   node-fits j h = holds-fits j (at (c .nodes) j) (valid .kinds j h)
@@ -96,10 +69,11 @@ module _ {c : Case} (valid : Valid c) where
 
   -- no two binders of one variable
   apart : (i j v : ℕ) → i < j → j < length (c .nodes) → binds (at (c .nodes) i) v ≡ true → binds (at (c .nodes) j) v ≡ true → ⊥
+  unfolding nodeAt
   apart i j v l h p q =
       let x : Triple = at (c .nodes) j in
       let e : x .1 ≡ v = eqb-true (x .1) v (search and-r) in
-      let k : leb 11 (x .0) ≡ true = search and-l in
+      let k : isBinder (nodeOf x) ≡ true = search and-l in
       let s : forSome j (λ i. binds (at (c .nodes) i) (x .1)) ≡ true = is-true _ (forSome-mk j _ i l (rw (e, p) tt)) in
       let z : _≡_ {A = ℕ} 0 1 = cc (valid .binders j h) in
       omega arith

@@ -8,6 +8,7 @@ use lib.Dec.{eqb}
 use lib.ListN.{length}
 use Rattle.flc.specs.Sets.{first}
 use Rattle.flc.proofs.Tests.{first-le}
+use Rattle.case_model.specs.Limits.{Limits}
 use Rattle.case_model.specs.Bytes.{byteAt, size, pairsHold}
 use Rattle.case_model.specs.Case.{Case, read, triples}
 use Rattle.case_model.specs.Rows.{Found, sound, refused, _orElse_, unless, lowest, labelsHold, ruleHolds, stepWrong, nodeWrong, binderWrong, rootClosed, refusals}
@@ -37,15 +38,15 @@ at-lowest k wrong c h = go (eqb (first wrong 0 c) c)
 pub later : {a : Found} → Placed a → (t : Bool) (k : ℕ) → Placed (a orElse unless t k 0)
 later p t k = then p (at-zero t k)
 
-pub refusals-placed : (f : List ℕ) → ((i : ℕ) → byteAt f i < 256) → Placed (refusals f)
+pub refusals-placed : (most : Limits) (f : List ℕ) → ((i : ℕ) → byteAt f i < 256) → Placed (refusals most f)
 unfolding refusals
-refusals-placed f bytes =
+refusals-placed most f bytes =
     let c : Case = read f in
     later
     (then
     (then
     (later
-    (then (later (at-zero (pairsHold f) 1) (labelsHold c) 2) (then (at-zero (eqb (size f 1 % 3) 0) 3) (at-lowest 3 (stepWrong c) _ (few 1))))
+    (then (later (at-zero (pairsHold most f) 1) (labelsHold most c) 2) (then (at-zero (eqb (size f 1 % 3) 0) 3) (at-lowest 3 (stepWrong c) _ (few 1))))
     (ruleHolds f c)
     4)
     (at-lowest 5 (nodeWrong c) _ (few 2)))

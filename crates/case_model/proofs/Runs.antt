@@ -5,9 +5,10 @@ use mathlib.Core.List.{List, [], _∷_, map}
 use mathlib.Core.Path.{_≡_, refl, sym, ap, ap₂, _∙_, subst}
 use lib.ListN.{length, drop}
 use lib.Seq.{take-append-seam}
+use Rattle.case_model.specs.Limits.{standard}
 use Rattle.case_model.specs.Rows.{sound, refusals}
-use Rattle.case_model.specs.Replies.{Reply, answers, refuses}
-use Rattle.case_model.specs.Merging.{counted, written, merging}
+use Rattle.case_model.specs.Replies.{Reply, answers, refuses, counted, written}
+use Rattle.case_model.specs.Merging.{merging}
 use Rattle.case_model.specs.Book.{Edit, Book, begun, reply, entered, turn, book}
 use Rattle.case_model.specs.Run.{Call, edit, Promised, handed, Calls, ended, called, Each, UnlikeTold, replies, Kept}
 use Rattle.case_model.proofs.Unlike.{unlike-exactly}
@@ -36,26 +37,26 @@ counted-refuses : (r : Reply (List ℕ)) (k p : ℕ) → counted r ≡ refuses k
 counted-refuses (answers new) k p e = cc
 counted-refuses (refuses j q) k p e = cc
 
-unlike-told : (f : List ℕ) (c : Call) → refusals f ≡ sound → Promised f c → UnlikeTold f c
+unlike-told : (f : List ℕ) (c : Call) → refusals standard f ≡ sound → Promised f c → UnlikeTold f c
 unlike-told f c ok P s t room e i j ne =
     let u = unlike-exactly f ok s t i j ne room in
     let says : c .told ≡ counted (merging f s t room) = P .says ∙ ap (λ d. counted (reply f d)) e in
     (λ h. u .0 (counted-refuses (merging f s t room) 10 0 (sym says ∙ h)), λ n. says ∙ ap counted (u .1 n))
 
 -- the file handed on is accepted again
-handed-accepted : (f : List ℕ) (c : Call) → refusals f ≡ sound → Promised f c → refusals (handed f (c .told) (c .after)) ≡ sound
+handed-accepted : (f : List ℕ) (c : Call) → refusals standard f ≡ sound → Promised f c → refusals standard (handed f (c .told) (c .after)) ≡ sound
 unfolding book
 handed-accepted f c ok P =
     rw (P .says, P .leaves, handed-entered (begun f) (edit c) (reply f (edit c)) (c .before)) (book-stands f ok (edit c ∷ []) .accepted)
 
-each-unlike : (f : List ℕ) (l : List Call) (last : List ℕ) → refusals f ≡ sound → Calls f l last → Each UnlikeTold f l
+each-unlike : (f : List ℕ) (l : List Call) (last : List ℕ) → refusals standard f ≡ sound → Calls f l last → Each UnlikeTold f l
 unfolding Each
 each-unlike f [] last ok ended = tt
 each-unlike f (c ∷ l) last ok (called P K) =
     (unlike-told f c ok P, each-unlike (handed f (c .told) (c .after)) l last (handed-accepted f c ok P) K)
 
 -- with what holds of the book
-pub demand-3 : (first : List ℕ) (l : List Call) (last : List ℕ) → refusals first ≡ sound → Calls first l last → Kept first l last
+pub demand-3 : (first : List ℕ) (l : List Call) (last : List ℕ) → refusals standard first ≡ sound → Calls first l last → Kept first l last
 demand-3 first l last ok calls =
     let (file, told) = run (begun first) l first last refl calls in
     let S : Stands first last (book (begun first) (map edit l) .standing) = rw file at (book-stands first ok (map edit l)) in

@@ -10,7 +10,8 @@ use borrow.Author.Tests.{eqb-true, eq-eqb}
 use lib.ListN.{length, take, drop}
 use Rattle.flc.specs.Sets.{first}
 use Rattle.flc.proofs.Tests.{first-least}
-use Rattle.case_model.specs.Bytes.{offset, size, sections, chained, pairsHold, section}
+use Rattle.case_model.specs.Bytes.{offset, size, chained, pairsHold, section}
+use Rattle.case_model.specs.Limits.{Limits, sections}
 use Rattle.case_model.specs.Rows.{Found, sound, refused, _orElse_, unless, lowest}
 use Rattle.case_model.proofs.Lists.{listOf-part}
 use Rattle.case_model.proofs.Tests.{is-false, and-l, and-r}
@@ -29,14 +30,14 @@ chained-within f at k (suc c) e =
     (omega arith, λ i l r. elim (ℕ-discrete i k) [ yes q ↦ rw q (omega arith) | no q ↦ w i (omega arith) (omega arith) ])
 
 -- a section ends within the file
-pub within : (f : List ℕ) → pairsHold f ≡ true → (k : ℕ) → k < sections → offset f k + size f k ≤ length f
+pub within : (most : Limits) (f : List ℕ) → pairsHold most f ≡ true → (k : ℕ) → k < sections → offset f k + size f k ≤ length f
 unfolding pairsHold
-within f e k h = chained-within f (4 * sections) 0 sections (search (and-l, and-r)) .1 k (omega arith) (omega arith)
+within most f e k h = chained-within f (4 * sections) 0 sections (search (and-l, and-r)) .1 k (omega arith) (omega arith)
 
 -- a section is a part of the file
-pub section-part : (f : List ℕ) → pairsHold f ≡ true → (k : ℕ) → k < sections → section f k ≡ take (size f k) (drop (offset f k) f)
+pub section-part : (most : Limits) (f : List ℕ) → pairsHold most f ≡ true → (k : ℕ) → k < sections → section f k ≡ take (size f k) (drop (offset f k) f)
 unfolding section
-section-part f e k h = listOf-part f (offset f k) (size f k) 0 (within f e k h)
+section-part most f e k h = listOf-part f (offset f k) (size f k) 0 (within most f e k h)
 
 -- ---- what a row finds
 -- rows asked after one another

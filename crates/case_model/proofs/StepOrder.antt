@@ -12,7 +12,8 @@ use lib.Dec.{T, eqb, eqb→eq, eqb-refl}
 use lib.ListN.{length}
 use Rattle.flc.specs.Sets.{both, either}
 use Rattle.flc.proofs.Tests.{bool-ext, both-left, both-right, both-mk, either-use, either-left, either-right}
-use Rattle.case_model.specs.Case.{Triple, Case, listed, at}
+use Rattle.case_model.specs.Case.{Case, listed, at}
+use Rattle.case_model.specs.Kinds.{Triple}
 use Rattle.case_model.specs.Rows.{rises, stepWrong}
 use Rattle.case_model.specs.Merging.{inOrder}
 use Rattle.case_model.proofs.Steps.{InRange, number, number-rises}

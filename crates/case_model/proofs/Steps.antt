@@ -12,10 +12,12 @@ use lib.Dec.{T, eqb, ltb, eqb→eq}
 use lib.ListN.{length}
 use Rattle.flc.specs.Bisimulation.{actions}
 use Rattle.flc.proofs.Tests.{both-left, both-right, either-use}
-use Rattle.case_model.specs.Case.{Triple, Case, listed, at}
+use Rattle.case_model.specs.Limits.{mostStates}
+use Rattle.case_model.specs.Case.{Case, listed, at}
+use Rattle.case_model.specs.Kinds.{Triple}
 use Rattle.case_model.specs.Rows.{rises, stepWrong}
 use Rattle.case_model.proofs.Tests.{and-l, and-r}
-use Rattle.case_model.proofs.Valid.{Valid}
+use Rattle.case_model.specs.Valid.{ValidTable}
 
 -- a step between n states
 pub record InRange (n : ℕ) (x : Triple) : Type 0 where
@@ -64,12 +66,18 @@ listed-at (x ∷ l) s a t h = either-use _ _
 -- from a test that says what is wrong to each part of what is right
 ruleset tests = (not-false, and-l, and-r)
 
-module _ {c : Case} (valid : Valid c) where
+module _ {most : ℕ} {c : Case} (valid : ValidTable most c) where
   pub step-in : (i : ℕ) → i < length (c .steps) → InRange (length (c .labels)) (at (c .steps) i)
   step-in i h =
       let e : stepWrong c i ≡ false = valid .steps i h in
       record { from = ltb-true _ _ (search tests); action = ltb-true _ _ (search tests); to = ltb-true _ _ (search tests) }
 
+  -- a transition of the table
+  pub listed-in : (s a t : ℕ) → T (listed (c .steps) s a t) → InRange (length (c .labels)) (s, a, t)
+  listed-in s a t h = let (i, k, e) = listed-at (c .steps) s a t h in subst (InRange (length (c .labels))) e (step-in i k)
+
+-- their order, if there are at most 16 states
+module _ {c : Case} (valid : ValidTable mostStates c) where
   -- a step and the next
   pub step-next : (i : ℕ) → suc i < length (c .steps) → number (at (c .steps) i) < number (at (c .steps) (suc i))
   step-next i h =
@@ -77,7 +85,7 @@ module _ {c : Case} (valid : Valid c) where
       let r : (eqb (suc i) 0 || rises (at (c .steps) (suc i - 1)) (at (c .steps) (suc i))) ≡ true = search tests in
       let p : suc i - 1 ≡ i = omega arith in
       let z : eqb (suc i) 0 ≡ false = ne-eqb (suc i) 0 (λ q. omega arith) in
-      rises-number (valid .few) (at (c .steps) i) (at (c .steps) (suc i)) (step-in i (omega arith)) (step-in (suc i) h) (rw (p, z) at r)
+      rises-number (valid .few) (at (c .steps) i) (at (c .steps) (suc i)) (step-in valid i (omega arith)) (step-in valid (suc i) h) (rw (p, z) at r)
 
   pub numbers-rise : (i j : ℕ) → i < j → j < length (c .steps) → number (at (c .steps) i) < number (at (c .steps) j)
   numbers-rise i zero l h = absurd (not-suc-le-zero l)
@@ -89,7 +97,7 @@ module _ {c : Case} (valid : Valid c) where
   -- an earlier step is strictly before a later one
   pub steps-rise : (i j : ℕ) → i < j → j < length (c .steps) → T (rises (at (c .steps) i) (at (c .steps) j))
   steps-rise i j l h =
-      subst T (sym (number-rises (valid .few) _ _ (step-in i (omega arith)) (step-in j h) (numbers-rise i j l h))) tt
+      subst T (sym (number-rises (valid .few) _ _ (step-in valid i (omega arith)) (step-in valid j h) (numbers-rise i j l h))) tt
 
   number-least : (i : ℕ) → i < length (c .steps) → i ≤ number (at (c .steps) i)
   number-least zero h = omega arith
@@ -99,10 +107,6 @@ module _ {c : Case} (valid : Valid c) where
   steps-few = elim (decLt 0 (length (c .steps))) [
     | yes h ↦
         let i : ℕ = length (c .steps) - 1 in
-        omega (arith, number-least i (omega arith), step-in i (omega arith), valid .few)
+        omega (arith, number-least i (omega arith), step-in valid i (omega arith), valid .few)
     | no h ↦ omega arith
   ]
-
-  -- a transition of the table
-  pub listed-in : (s a t : ℕ) → T (listed (c .steps) s a t) → InRange (length (c .labels)) (s, a, t)
-  listed-in s a t h = let (i, k, e) = listed-at (c .steps) s a t h in subst (InRange (length (c .labels))) e (step-in i k)

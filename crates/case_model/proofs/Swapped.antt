@@ -1,13 +1,13 @@
 -- The nodes of a case in which node j gave way to others: where each is found, and that rows 5 and 6 still pass.
 -- What a law must bring for that is one record; then every lawful relation holds of each node and what it became.
 use Prim.Native.Nat.{ℕ, suc, _+_, _-_, _≤_, _<_}
-use mathlib.Core.Bool.{true, false, and-false}
+use mathlib.Core.Bool.{true, false, false≢true}
 use mathlib.Core.List.{List, _++_, map}
 use mathlib.Core.Path.{_≡_, refl, sym, ap, _∙_, subst}
 use native.Mathlib.Decide.{decLt, ℕ-discrete}
 use native.Mathlib.Omega.{arith}
-use borrow.Author.Tests.{leb-true, eqb-true, lt-leb, eq-eqb}
-use lib.Dec.{T, leb}
+use borrow.Author.Tests.{eqb-true, eq-eqb}
+use lib.Dec.{T}
 use lib.ListN.{length, take, drop, length-append, length-drop, length-map, List·getD-map, List·getD-append}
 use lib.Seq.{getD-append-add, getD-take, getD-drop, length-take-le}
 use Rattle.flc.specs.Sets.{forSome}
@@ -15,14 +15,15 @@ use Rattle.flc.specs.Formula.{Formula}
 use Rattle.flc.specs.Nodes.{tree, formulaAt}
 use Rattle.flc.proofs.Tests.{forSome-use, forSome-mk}
 use Rattle.flc.proofs.Unfolding.{formulaAt-node}
-use Rattle.case_model.specs.Case.{Triple, Case, at, nodeOf, nodeAt}
-use Rattle.case_model.specs.Rows.{nodeHolds, binds, binderWrong}
+use Rattle.case_model.specs.Case.{Case, at, nodeAt}
+use Rattle.case_model.specs.Kinds.{Triple, kinds, kindAt, nodeOf, nodeHolds, isBinder}
+use Rattle.case_model.specs.Rows.{binds, binderWrong}
 use Rattle.case_model.specs.Rewriting.{swap, renamed, rewrite}
 use Rattle.case_model.proofs.Tests.{is-true, is-false, and-l, and-r}
 use Rattle.case_model.proofs.Nodes.{node-lower}
-use Rattle.case_model.proofs.Valid.{Valid}
+use Rattle.case_model.specs.Valid.{ValidRule}
 use Rattle.case_model.proofs.Lawful.{Lawful, rewritten}
-use Rattle.case_model.proofs.RenamedNodes.{tree-renamed, renamed-holds, holds-lower, Pairs, pairs-at, pair-holds}
+use Rattle.case_model.proofs.RenamedNodes.{tree-renamed, binds-renamed, renamed-holds, holds-lower, Pairs, pairs-at, pair-holds, pair-plain}
 
 -- ---- where the nodes are found: below j, in place of j, above j
 module _ (c : Case) (j : ℕ) (l : List Triple) (g : ℕ → ℕ) (within : j < length (c .nodes)) where
@@ -34,7 +35,7 @@ module _ (c : Case) (j : ℕ) (l : List Triple) (g : ℕ → ℕ) (within : j < 
   length-new = simp (length-append, front, length-map, length-drop) (omega arith)
 
   pub new-low : (i : ℕ) → i < j → at (rewrite c j (swap l g) .nodes) i ≡ renamed g (at (c .nodes) i)
-  unfolding rewrite
+  unfolding rewrite kindAt kinds
   new-low i h =
       List·getD-append (map (renamed g) (take j (c .nodes))) _ (0, 0, 0) i (rw front h)
       ∙ List·getD-map (renamed g) (take j (c .nodes)) i (0, 0, 0) ∙ ap (renamed g) (getD-take j (c .nodes) i (0, 0, 0) h)
@@ -51,6 +52,7 @@ module _ (c : Case) (j : ℕ) (l : List Triple) (g : ℕ → ℕ) (within : j < 
   new-mid i h = rest i ∙ List·getD-append l _ (0, 0, 0) i h
 
   pub new-high : (i : ℕ) → j < i → at (rewrite c j (swap l g) .nodes) (i + length l - 1) ≡ renamed g (at (c .nodes) i)
+  unfolding kindAt kinds
   new-high i h =
       let e : i + length l - 1 ≡ j + (length l + (i - suc j)) = omega arith in
       let q : suc j + (i - suc j) ≡ i = omega arith in
@@ -75,7 +77,7 @@ pub record Fit (c : Case) (j : ℕ) (l : List Triple) (g : ℕ → ℕ) : Type 1
   pub pairs : Pairs j l
   pub law : Becomes c j l (g j)
 
-module _ {c : Case} (valid : Valid c) {j : ℕ} {l : List Triple} {g : ℕ → ℕ} (F : Fit c j l g) where
+module _ {c : Case} (valid : ValidRule c) {j : ℕ} {l : List Triple} {g : ℕ → ℕ} (F : Fit c j l g) where
   -- the new case, and how many nodes it has
   abbrev new : Case
   new = rewrite c j (swap l g)
@@ -134,7 +136,7 @@ module _ {c : Case} (valid : Valid c) {j : ℕ} {l : List Triple} {g : ℕ → �
   new-kinds i h = go (from i h)
     where
       go : From i → nodeHolds i (at (new .nodes) i) ≡ true
-      go (old x k n e) = rw (e, gone x n) (renamed-holds g x (g x) (at (c .nodes) x) (λ y q. rises y x q n) (valid .kinds x k))
+      go (old x k n e) = rw (e, gone x n) (renamed-holds g (at (c .nodes) x) x (g x) (λ y q. rises y x q n) (valid .kinds x k))
       go (put x k e) = rw (e, new-mid c j l g (F .within) x k) (pair-holds (j + x) (at l x) (pairs-at l j (F .pairs) x k))
 
   -- ---- row 6: node i binds v, and so did the node that it was
@@ -151,15 +153,14 @@ module _ {c : Case} (valid : Valid c) {j : ℕ} {l : List Triple} {g : ℕ → �
       go : From i → WasBinder i v
       go (old x k n e) =
           let r : binds (renamed g (at (c .nodes) x)) v ≡ true = rw (e, gone x n) at b in
-          let m : 11 ≤ at (c .nodes) x .0 = leb-true _ _ (search and-l) in
-          record { place = x; inside = k; other = n; became = e; bound = rw (lt-leb (at (c .nodes) x .0) 10 (omega arith), and-false) at r }
+          record { place = x; inside = k; other = n; became = e; bound = sym (binds-renamed g (at (c .nodes) x) v) ∙ r }
       go (put x k e) =
           let r : binds (at l x) v ≡ true = rw (e, new-mid c j l g (F .within) x k) at b in
-          let m : 11 ≤ at l x .0 = leb-true _ _ (search and-l) in
-          absurd (omega (arith, pairs-at l j (F .pairs) x k))
+          absurd (false≢true (sym (pair-plain (at l x) (pairs-at l j (F .pairs) x k) v) ∙ r))
 
   -- two binders of one variable were two before
   apart : {y i v : ℕ} → WasBinder y v → WasBinder i v → y < i → ⊥
+  unfolding nodeAt
   apart {y} {i} {v} P Q h =
       let p : P .place < Q .place = elim (decLt (P .place) (Q .place)) [
         | yes q ↦ q
@@ -170,17 +171,18 @@ module _ {c : Case} (valid : Valid c) {j : ℕ} {l : List Triple} {g : ℕ → �
       ] in
       let x : Triple = at (c .nodes) (Q .place) in
       let b : binds x v ≡ true = Q .bound in
-      let a : leb 11 (x .0) ≡ true = search and-l in
+      let a : isBinder (nodeOf x) ≡ true = search and-l in
       let e : x .1 ≡ v = eqb-true (x .1) v (search and-r) in
       let s : forSome (Q .place) (λ z. binds (at (c .nodes) z) (x .1)) ≡ true = is-true _ (forSome-mk (Q .place) _ (P .place) p (rw (e, P .bound) tt)) in
       let z : _≡_ {A = ℕ} 0 1 = cc (valid .binders (Q .place) (Q .inside)) in
       omega arith
 
   pub new-binders : (i : ℕ) → i < length (new .nodes) → binderWrong new i ≡ false
+  unfolding nodeAt
   new-binders i h = is-false _ (λ t.
       let v : ℕ = at (new .nodes) i .1 in
       let e : binderWrong new i ≡ true = is-true _ t in
-      let k : leb 11 (at (new .nodes) i .0) ≡ true = search and-l in
+      let k : isBinder (nodeAt new i) ≡ true = search and-l in
       let s : forSome i (λ y. binds (at (new .nodes) y) v) ≡ true = search and-r in
       let (y, q, b) = forSome-use i _ (subst T (sym s) tt) in
       apart (was-binder y v (omega arith) (is-true _ b)) (was-binder i v h (rw (k, eq-eqb v v refl))) q)

@@ -14,11 +14,13 @@ use Rattle.flc.specs.Formula.{Table}
 use Rattle.flc.specs.Bisimulation.{bisimulation, alike}
 use Rattle.flc.proofs.Tests.{bool-ext}
 use Rattle.flc.proofs.Alikeness.{bisimulation-use, bisimulation-mk, alike-use, alike-mk, alike-sym}
+use Rattle.case_model.specs.Limits.{standard}
 use Rattle.case_model.specs.Case.{Case, read, write, table}
 use Rattle.case_model.specs.Rows.{Found, sound, refused, _orElse_, unless, refusals}
-use Rattle.case_model.specs.Replies.{refuses, replied}
-use Rattle.case_model.specs.Merging.{merge, row13, merging}
-use Rattle.case_model.proofs.Valid.{Valid, accepted-valid}
+use Rattle.case_model.specs.Replies.{refuses, replied, row13}
+use Rattle.case_model.specs.Merging.{merge, merging}
+use Rattle.case_model.proofs.Valid.{accepted-valid}
+use Rattle.case_model.specs.Valid.{Valid}
 use Rattle.case_model.proofs.Merged.{valid-acts}
 
 -- ---- either order
@@ -26,10 +28,10 @@ use Rattle.case_model.proofs.Merged.{valid-acts}
 eqb-turned : (s t : ℕ) → eqb s t ≡ eqb t s
 eqb-turned s t = elim (ℕ-discrete s t) [ yes e ↦ rw (eq-eqb s t e, eq-eqb t s (sym e)) | no n ↦ rw (ne-eqb s t n, ne-eqb t s (λ e. n (sym e))) ]
 
-pub alike-turned : {c : Case} → Valid c → (s t : ℕ) → s < length (c .labels) → t < length (c .labels) → alike (table c) s t ≡ alike (table c) t s
+pub alike-turned : {c : Case} → Valid standard c → (s t : ℕ) → s < length (c .labels) → t < length (c .labels) → alike (table c) s t ≡ alike (table c) t s
 unfolding table
 alike-turned {c} valid s t i j =
-    bool-ext _ _ (alike-sym (table c) (valid-acts valid) s t i j) (alike-sym (table c) (valid-acts valid) t s j i)
+    bool-ext _ _ (alike-sym (table c) (valid-acts (valid .table)) s t i j) (alike-sym (table c) (valid-acts (valid .table)) t s j i)
 
 -- rows 8 and 10 with the states turned round
 turned : (x : Found) (a b d e : Bool) (y : Found) → (x ≡ sound → a ≡ true → b ≡ true → d ≡ e)
@@ -49,21 +51,21 @@ merge-either f s t room =
     let p : min s t ≡ min t s = omega arith in
     let q : max s t ≡ max t s = omega arith in
     let d : ℕ → ℕ → Bool = λ s t. not (eqb s t) && alike (table (read f)) s t in
-    rw (p, q) (ap (λ z. replied z new) (turned (refusals f) (ltb s n) (ltb t n) (d s t) (d t s) (row13 new room) (λ ok i j.
-    rw (eqb-turned s t, alike-turned (accepted-valid f ok) s t (ltb-true s n i) (ltb-true t n j)))))
+    rw (p, q) (ap (λ z. replied z new) (turned (refusals standard f) (ltb s n) (ltb t n) (d s t) (d t s) (row13 new room) (λ ok i j.
+    rw (eqb-turned s t, alike-turned (accepted-valid standard f ok) s t (ltb-true s n i) (ltb-true t n j)))))
 
 -- ---- unlike
-module _ (f : List ℕ) (ok : refusals f ≡ sound) (s t : ℕ) (i : s < length (read f .labels)) (j : t < length (read f .labels)) (ne : s ≡ t → ⊥) where
+module _ (f : List ℕ) (ok : refusals standard f ≡ sound) (s t : ℕ) (i : s < length (read f .labels)) (j : t < length (read f .labels)) (ne : s ≡ t → ⊥) where
   abbrev L : Table
   L = table (read f)
 
   -- alike states are related by some bisimulation, and others by none
   related : T (alike L s t) → ((R : ℕ → ℕ → Bool) → T (bisimulation L R) → T (R s t) → ⊥) → ⊥
-  related a h = let (R, B, r) = alike-use L (valid-acts (accepted-valid f ok)) s t a in h R (bisimulation-mk L R B) r
+  related a h = let (R, B, r) = alike-use L (valid-acts (accepted-valid standard f ok .table)) s t a in h R (bisimulation-mk L R B) r
 
   unrelated : (T (alike L s t) → ⊥) → (R : ℕ → ℕ → Bool) → T (bisimulation L R) → T (R s t) → ⊥
   unfolding table
-  unrelated n R B r = n (alike-mk L R (bisimulation-use L (valid-acts (accepted-valid f ok)) R B) s t i j r)
+  unrelated n R B r = n (alike-mk L R (bisimulation-use L (valid-acts (accepted-valid standard f ok .table)) R B) s t i j r)
 
   -- clause 4.7
   pub unlike-exactly : (room : ℕ)

@@ -1,18 +1,21 @@
 -- A valid case whose labels are bytes is written in bytes.
--- Lists of bytes are closed under `_∷_` and `_++_`; the table of kinds leaves no room for a larger number in a node.
-use Prim.Native.Nat.{ℕ, zero, suc, _+_, _≤_, _<_, suc-le-suc}
-use mathlib.Core.Bool.{true, false, and-false, false≢true}
-use mathlib.Core.List.{List, [], _∷_, _++_}
+-- Lists of bytes are closed under `_∷_` and `_++_`; each line of the table of kinds leaves no room for a larger number.
+use Prim.Native.Nat.{ℕ, zero, suc, _+_, _*_, _≤_, _<_, suc-le-suc}
+use mathlib.Core.Bool.{true, _&&_}
+use mathlib.Core.List.{List, [], _∷_, _++_, map}
 use mathlib.Core.Path.{_≡_}
-use native.Mathlib.Decide.{decLt}
 use native.Mathlib.Omega.{arith}
-use borrow.Author.Tests.{le-ltb, lt-leb, ne-eqb}
+use borrow.Author.Tests.{eqb-true, ltb-true}
+use lib.Dec.{ltb}
 use lib.ListN.{length, length-append}
+use Rattle.case_model.specs.Limits.{sections, variables, standard}
 use Rattle.case_model.specs.Bytes.{byteAt, pairs, joined, packed}
-use Rattle.case_model.specs.Case.{Triple, Case, flat, write, at}
-use Rattle.case_model.specs.Rows.{nodeHolds}
+use Rattle.case_model.specs.Case.{Case, flat, write, at}
+use Rattle.case_model.specs.Kinds.{Triple, unused, under, lowerNode, Kind, fits, kinds, kindAt, nodeHolds}
+use Rattle.case_model.proofs.Tests.{and-l, and-r}
+use Rattle.case_model.proofs.KindLines.{Line, constant, variable, pair, binder, line, kinds-few}
 use Rattle.case_model.proofs.Codec.{length-packed, parts, length-write}
-use Rattle.case_model.proofs.Valid.{Valid}
+use Rattle.case_model.specs.Valid.{Valid}
 use Rattle.case_model.proofs.Steps.{step-in, steps-few}
 
 -- ---- lists of bytes
@@ -37,7 +40,7 @@ joint [] p q = q
 joint (x ∷ l) p q = more (p .small 0) (joint l (rest p) q)
 
 -- pairs of numbers of two bytes
-bytes-pairs : (l : List (List ℕ)) (from : ℕ) → from + length (joined l) < 65536 → Bytes (pairs from l)
+bytes-pairs : (l : List (List ℕ)) (from : ℕ) → from + length (joined l) < 65536 → Bytes (pairs from (map length l))
 bytes-pairs [] from h = none
 bytes-pairs (s ∷ l) from h =
     let e = length-append s (joined l) in
@@ -55,37 +58,32 @@ bytes-flat (x ∷ l) h =
     let s : Small x = h 0 (omega arith) in
     more (s .first) (more (s .second) (more (s .third) (bytes-flat l (λ i k. h (suc i) (suc-le-suc k)))))
 
-below : (x n : ℕ) → (n ≤ x → false ≡ true) → x < n
-below x n f = elim (decLt x n) [ yes l ↦ l | no l ↦ absurd (false≢true (f (omega arith))) ]
-
--- a larger kind, A or B fails every line of the table of kinds
-node-small : (j : ℕ) (x : Triple) → j ≤ 256 → nodeHolds j x ≡ true → Small x
-node-small j (k, a, b) h e = record {
-  first = below k 256 (λ l. simp (
-    lt-leb k 1 (omega arith),
-    lt-leb k 3 (omega arith),
-    ne-eqb k 4 (λ q. omega arith),
-    ne-eqb k 5 (λ q. omega arith),
-    lt-leb k 7 (omega arith),
-    lt-leb k 10 (omega arith),
-    lt-leb k 12 (omega arith),
-    and-false,
-  ) at e);
-  second = below a 256 (λ l. simp (ne-eqb a 0 (λ q. omega arith), le-ltb a 8 (omega arith), le-ltb a 16 (omega arith), le-ltb a j (omega arith), and-false) at e);
-  third = below b 256 (λ l. simp (ne-eqb b 0 (λ q. omega arith), le-ltb b j (omega arith), and-false) at e);
-}
+-- a node that passes row 5
+node-small : (j : ℕ) (t : Triple) → j ≤ 256 → nodeHolds j t ≡ true → Small t
+node-small j t h e =
+    let (a, b) = go (kindAt (t .0)) (line (t .0)) (and-r (ltb (t .0) (length kinds)) _ e) in
+    let k : t .0 < length kinds = ltb-true _ _ (and-l (ltb (t .0) (length kinds)) _ e) in
+    record { first = omega (arith, kinds-few); second = a; third = b }
+  where
+    go : (κ : Kind) → Line κ → (fits (κ .first) j (t .1) && fits (κ .second) j (t .2)) ≡ true → (t .1 < 256) × (t .2 < 256)
+    go _ (constant f unused n) e = (omega (arith, eqb-true (t .1) 0 (search and-l)), omega (arith, eqb-true (t .2) 0 (search and-r)))
+    go _ (constant f lowerNode n) e = absurd n
+    go _ (constant f (under k) n) e = (omega (arith, ltb-true (t .1) k (search and-l)), omega (arith, eqb-true (t .2) 0 (search and-r)))
+    go _ variable e = (omega (arith, ltb-true (t .1) variables (search and-l)), omega (arith, eqb-true (t .2) 0 (search and-r)))
+    go _ (pair o) e = (omega (arith, ltb-true (t .1) j (search and-l)), omega (arith, ltb-true (t .2) j (search and-r)))
+    go _ (binder d) e = (omega (arith, ltb-true (t .1) variables (search and-l)), omega (arith, ltb-true (t .2) j (search and-r)))
 
 -- ---- the written case
-pub write-bytes : (c : Case) → Valid c → ((i : ℕ) → byteAt (c .labels) i < 256) → (i : ℕ) → byteAt (write c) i < 256
+pub write-bytes : (c : Case) → Valid standard c → ((i : ℕ) → byteAt (c .labels) i < 256) → (i : ℕ) → byteAt (write c) i < 256
 unfolding write packed
 write-bytes c valid labels i =
-    joint (pairs 12 (parts c)) (bytes-pairs (parts c) 12 (omega (arith, length-packed (parts c), length-write c, steps-few valid, valid .few, valid .most)))
+    joint (pairs (4 * sections) (map length (parts c))) (bytes-pairs (parts c) (4 * sections) (omega (arith, length-packed (parts c), length-write c, steps-few (valid .table), valid .table .few, valid .rule .most)))
     (joint (c .labels) (record { small = labels }) (joint (flat (c .steps)) (bytes-flat (c .steps) step)
-    (joint (flat (c .nodes) ++ (c .root ∷ [])) (joint (flat (c .nodes)) (bytes-flat (c .nodes) node) (more (omega (arith, valid .root, valid .most)) none)) none)))
+    (joint (flat (c .nodes) ++ (c .root ∷ [])) (joint (flat (c .nodes)) (bytes-flat (c .nodes) node) (more (omega (arith, valid .rule .root, valid .rule .most)) none)) none)))
     .small i
   where
     step : (i : ℕ) → i < length (c .steps) → Small (at (c .steps) i)
-    step i h = let r = step-in valid i h in record { first = omega (arith, valid .few); second = omega arith; third = omega (arith, valid .few) }
+    step i h = let r = step-in (valid .table) i h in record { first = omega (arith, valid .table .few); second = omega arith; third = omega (arith, valid .table .few) }
 
     node : (j : ℕ) → j < length (c .nodes) → Small (at (c .nodes) j)
-    node j h = node-small j (at (c .nodes) j) (omega (arith, valid .most)) (valid .kinds j h)
+    node j h = node-small j (at (c .nodes) j) (omega (arith, valid .rule .most)) (valid .rule .kinds j h)

@@ -1,16 +1,14 @@
 -- A case as data: how it is read from a file, how it is written, its state table and its rule: docs/SPECIFICATION.md, section 1.
 use Prim.Native.Nat.{ℕ, _+_, _*_, _/_}
-use mathlib.Core.Bool.{Bool, true, false}
+use mathlib.Core.Bool.{Bool, false}
 use mathlib.Core.List.{List, [], _∷_, _++_}
 use lib.ListN.{length, getD}
 use lib.Dec.{eqb}
 use Rattle.flc.specs.Sets.{both, either}
-use Rattle.flc.specs.Formula.{Table, atom, top, bottom, tau, prop, nprop, dia, box, Formula, var, or, and, chop}
-use Rattle.flc.specs.Nodes.{Node, leaf, two, bind, formulaAt}
+use Rattle.flc.specs.Formula.{Table, Formula}
+use Rattle.flc.specs.Nodes.{Node, formulaAt}
 use Rattle.case_model.specs.Bytes.{listOf, byteAt, offset, size, section, packed}
-
-abbrev pub Triple : Type 0
-Triple = ℕ × ℕ × ℕ
+use Rattle.case_model.specs.Kinds.{Triple, nodeOf}
 
 pub record Case : Type 0 where
   pub labels : List ℕ
@@ -55,20 +53,6 @@ table c = record { n = length (c .labels); label = λ s. getD (c .labels) s 0; s
 -- ---- the rule
 abbrev pub at : List Triple → ℕ → Triple
 at l i = getD l i (0, 0, 0)
-
--- clause 1.7: kinds 0 to 12, in order, with operands a and b
-unfoldable pub kinds : ℕ → ℕ → List Node
-kinds a b =
-    leaf (atom top) ∷ leaf (atom bottom)
-    ∷ leaf (atom (prop a)) ∷ leaf (atom (nprop a))
-    ∷ leaf (var a)
-    ∷ leaf (atom tau)
-    ∷ leaf (atom (dia a)) ∷ leaf (atom (box a))
-    ∷ two or a b ∷ two and a b ∷ two chop a b
-    ∷ bind true a b ∷ bind false a b ∷ []
-
-unfoldable pub nodeOf : Triple → Node
-nodeOf t = getD (kinds (t .1) (t .2)) (t .0) (leaf (atom bottom))
 
 unfoldable pub nodeAt : Case → ℕ → Node
 nodeAt c j = nodeOf (at (c .nodes) j)

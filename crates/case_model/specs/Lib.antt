@@ -1,6 +1,11 @@
+pub mod Areas
+pub mod Limits
+pub mod Kinds
 pub mod Bytes
 pub mod Case
 pub mod Rows
+pub mod Valid
+pub mod Reach
 pub mod Replies
 pub mod Judging
 pub mod Decision

@@ -2,29 +2,17 @@
 use Prim.Native.Nat.{ℕ, zero, suc, _-_, _/_, _%_, min, max}
 use mathlib.Core.Bool.{Bool, _&&_, not, cond}
 use mathlib.Core.List.{List, [], _∷_, _++_}
-use lib.Dec.{eqb, leb, ltb}
+use lib.Dec.{eqb, ltb}
 use lib.ListN.{length, take, drop}
 use Rattle.flc.specs.Sets.{first}
 use Rattle.flc.specs.Formula.{Table}
 use Rattle.flc.specs.Bisimulation.{alike}
+use Rattle.case_model.specs.Limits.{standard}
 use Rattle.case_model.specs.Bytes.{listOf}
-use Rattle.case_model.specs.Case.{Triple, Case, read, write, listed, table}
+use Rattle.case_model.specs.Case.{Case, read, write, listed, table}
+use Rattle.case_model.specs.Kinds.{Triple}
 use Rattle.case_model.specs.Rows.{Found, _orElse_, unless, row8, refusals}
-use Rattle.case_model.specs.Replies.{Reply, answers, refuses, replied}
-
--- clause 8.13: the result does not fit
-abbrev pub row13 : List ℕ → ℕ → Found
-row13 new room = unless (leb (length new) room) 13 0
-
--- clause 7.6: what is told of a new file is how many bytes it has
-abbrev pub counted : Reply (List ℕ) → Reply ℕ
-counted (answers new) = answers (length new)
-counted (refuses k p) = refuses k p
-
--- clauses 7.5 and 7.6: the output area after the call, new bytes in front and the rest as it was
-abbrev pub written : Reply (List ℕ) → List ℕ → List ℕ
-written (answers new) out = new ++ drop (length new) out
-written (refuses k p) out = out
+use Rattle.case_model.specs.Replies.{Reply, replied, row13}
 
 -- ---- clause 4.3: the first state, from 0 on, that is alike to s
 unfoldable pub lowestAlike : Table → ℕ → ℕ
@@ -33,7 +21,7 @@ lowestAlike L s = first (alike L s) 0 s
 unfoldable pub classing : List ℕ → ℕ → Reply (List ℕ)
 classing f room =
     let new : List ℕ = listOf (length (read f .labels)) (lowestAlike (table (read f))) in
-    replied (refusals f orElse row13 new room) new
+    replied (refusals standard f orElse row13 new room) new
 
 -- ---- merging: k is kept, r removed
 -- clauses 4.5 and 4.6: the number of the state that stands for s after the merge
@@ -71,4 +59,4 @@ merging f s t room =
     let c : Case = read f in
     let n : ℕ = length (c .labels) in
     let new : List ℕ = write (merge c (min s t) (max s t)) in
-    replied (refusals f orElse row8 s n orElse row8 t n orElse row10 c s t orElse row13 new room) new
+    replied (refusals standard f orElse row8 s n orElse row8 t n orElse row10 c s t orElse row13 new room) new

@@ -1,12 +1,14 @@
 -- What the entries reply: docs/SPECIFICATION.md, section 7, with vetting and opening of section 1.
 use Prim.Native.Nat.{ℕ, _+_}
-use mathlib.Core.List.{List, []}
+use mathlib.Core.List.{List, [], _++_}
 use mathlib.Core.Path.{_≡_}
-use lib.ListN.{length}
+use lib.Dec.{leb}
+use lib.ListN.{length, drop}
 use denote.Ref.{RefT, now, ptr}
-use Rattle.case_model.specs.Bytes.{offset, sections, section}
+use Rattle.case_model.specs.Bytes.{offset, section}
+use Rattle.case_model.specs.Limits.{Limits, sections, standard}
 use Rattle.case_model.specs.Case.{Case, read}
-use Rattle.case_model.specs.Rows.{Found, sound, refused, _orElse_, row8, refusals}
+use Rattle.case_model.specs.Rows.{Found, sound, refused, _orElse_, unless, row8, refusals}
 
 -- clause 7.1: an answer, or a number and a place
 pub data Reply (A : Type 0) : Type 0 where
@@ -25,13 +27,13 @@ pub record Counts : Type 0 where
 abbrev pub counts : Case → Counts
 counts c = record { states = length (c .labels); nodes = length (c .nodes) }
 
--- clause 6.1: what an accepted file is answered with, before the section number is looked at
-unfoldable pub accepting : List ℕ → Reply Counts
-accepting f = replied (refusals f) (counts (read f))
+-- clause 6.1: what a file is answered with that is accepted within these limits, before a section number is looked at
+unfoldable pub accepting : Limits → List ℕ → Reply Counts
+accepting most f = replied (refusals most f) (counts (read f))
 
 -- clauses 1.12 and 7.4: refusals 1 to 8, the section number last, or the counts
 unfoldable pub vetting : List ℕ → ℕ → Reply Counts
-vetting f k = replied (refusals f orElse row8 k sections) (counts (read f))
+vetting f k = replied (refusals standard f orElse row8 k sections) (counts (read f))
 
 -- clauses 1.13 and 1.14: the part where vetting answers, the empty one where it refuses
 abbrev pub opened : {A B : Type 0} → Reply A → B → B → B
@@ -50,3 +52,18 @@ pub record Opened (file r : RefT (List ℕ)) (k : ℕ) : Type 0 where
   pub bytes : now r ≡ opening (now file) k
   pub block : ptr r .0 ≡ ptr file .0
   pub place : ptr r .1 ≡ ptr file .1 + openedAt (now file) k
+
+-- ---- entries that write to an output area
+-- clause 8.13: the result does not fit
+abbrev pub row13 : List ℕ → ℕ → Found
+row13 new room = unless (leb (length new) room) 13 0
+
+-- clause 7.6: what is told of a new file is how many bytes it has
+abbrev pub counted : Reply (List ℕ) → Reply ℕ
+counted (answers new) = answers (length new)
+counted (refuses k p) = refuses k p
+
+-- clauses 7.5 and 7.6: the output area after the call, new bytes in front and the rest as it was
+abbrev pub written : Reply (List ℕ) → List ℕ → List ℕ
+written (answers new) out = new ++ drop (length new) out
+written (refuses k p) out = out

@@ -1,13 +1,16 @@
 -- The nine laws, and rewriting: docs/SPECIFICATION.md, section 5, with refusals 11 to 13.
 use Prim.Native.Nat.{ℕ, suc, _+_, _-_}
-use mathlib.Core.Bool.{Bool, true, false, _&&_, cond}
+use mathlib.Core.Bool.{Bool, true, false, _&&_, _||_, cond}
 use mathlib.Core.List.{List, [], _∷_, _++_, map}
 use lib.Dec.{eqb, leb, ltb}
 use lib.ListN.{length, getD, take, drop}
-use Rattle.case_model.specs.Case.{Triple, Case, read, write, at}
-use Rattle.case_model.specs.Rows.{_orElse_, unless, mostNodes, refusals}
-use Rattle.case_model.specs.Replies.{Reply, replied}
-use Rattle.case_model.specs.Merging.{row13}
+use Rattle.flc.specs.Formula.{or, and, chop}
+use Rattle.flc.specs.Nodes.{Node, leaf, two, bind}
+use Rattle.case_model.specs.Case.{Case, read, write, at}
+use Rattle.case_model.specs.Kinds.{Triple, kindOf, kindOfTau, lastConstant, nodeOf}
+use Rattle.case_model.specs.Rows.{_orElse_, unless, refusals}
+use Rattle.case_model.specs.Limits.{mostNodes, standard}
+use Rattle.case_model.specs.Replies.{Reply, replied, row13}
 
 -- what a law does at node j: nothing, or node j gives way to some nodes and the nodes that others name are renamed
 pub data Change : Type 0 where
@@ -25,18 +28,19 @@ shifted j d i = cond (ltb i j) i (i + d)
 -- clause 5.1: laws 1 to 9, in order, at node j = (k, a, b), which names x first and y second
 abbrev pub lawsAt : ℕ → Triple → Triple → Triple → List Change
 lawsAt j (k, a, b) x y =
-    let isChop : Bool = eqb k 10 in
-    let isPair : Bool = leb 8 k && leb k 9 in
+    let isChop : Bool = eqb k (kindOf chop) in
+    let isPair : Bool = eqb k (kindOf or) || eqb k (kindOf and) in
+    let chopped : ℕ → ℕ → Triple = λ p q. (kindOf chop, p, q) in
     let redirect : ℕ → Change = λ i. swap ((k, a, b) ∷ []) (redirected j i) in
     let insert : List Triple → Change = λ l. swap l (shifted j (length l - 1)) in
     let given : Bool → Change → Change = λ t e. cond t e nothing in
-    given (isChop && eqb (x .0) 5) (redirect b)
-    ∷ given (isChop && eqb (y .0) 5) (redirect a)
-    ∷ given (isChop && leb (x .0) 3) (redirect a)
-    ∷ given (isChop && eqb (x .0) 10) (insert ((10, x .2, b) ∷ (10, x .1, j) ∷ []))
-    ∷ given (isChop && eqb (y .0) 10) (insert ((10, a, y .1) ∷ (10, j, y .2) ∷ []))
-    ∷ given (isChop && eqb (x .0) 8) (insert ((10, x .1, b) ∷ (10, x .2, b) ∷ (8, j, suc j) ∷ []))
-    ∷ given (isChop && eqb (x .0) 9) (insert ((10, x .1, b) ∷ (10, x .2, b) ∷ (9, j, suc j) ∷ []))
+    given (isChop && eqb (x .0) kindOfTau) (redirect b)
+    ∷ given (isChop && eqb (y .0) kindOfTau) (redirect a)
+    ∷ given (isChop && leb (x .0) lastConstant) (redirect a)
+    ∷ given (isChop && eqb (x .0) (kindOf chop)) (insert (chopped (x .2) b ∷ chopped (x .1) j ∷ []))
+    ∷ given (isChop && eqb (y .0) (kindOf chop)) (insert (chopped a (y .1) ∷ chopped j (y .2) ∷ []))
+    ∷ given (isChop && eqb (x .0) (kindOf or)) (insert (chopped (x .1) b ∷ chopped (x .2) b ∷ (kindOf or, j, suc j) ∷ []))
+    ∷ given (isChop && eqb (x .0) (kindOf and)) (insert (chopped (x .1) b ∷ chopped (x .2) b ∷ (kindOf and, j, suc j) ∷ []))
     ∷ given (isPair && eqb a b) (redirect a)
     ∷ given isPair (insert ((k, b, a) ∷ []))
     ∷ []
@@ -49,9 +53,19 @@ abbrev pub isThere : Change → Bool
 isThere nothing = false
 isThere (swap l g) = true
 
--- a node with the nodes that it names renamed
+-- a node with the nodes that it names renamed: both operands of an operator, the second of a binder
+abbrev pub firstRenamed : Node → (ℕ → ℕ) → ℕ → ℕ
+firstRenamed (leaf p) g x = x
+firstRenamed (two o a b) g x = g x
+firstRenamed (bind d v b) g x = x
+
+abbrev pub secondRenamed : Node → (ℕ → ℕ) → ℕ → ℕ
+secondRenamed (leaf p) g x = x
+secondRenamed (two o a b) g x = g x
+secondRenamed (bind d v b) g x = g x
+
 abbrev pub renamed : (ℕ → ℕ) → Triple → Triple
-renamed g (k, a, b) = (k, cond (leb 8 k && leb k 10) (g a) a, cond (leb 8 k) (g b) b)
+renamed g t = (t .0, firstRenamed (nodeOf t) g (t .1), secondRenamed (nodeOf t) g (t .2))
 
 -- clauses 5.2, 5.3 and 5.4: the rewritten case
 unfoldable pub rewrite : Case → ℕ → Change → Case
@@ -69,5 +83,5 @@ rewriting f law j room =
     let e : Change = change (read f .nodes) law j in
     let new : Case = rewrite (read f) j e in
     replied
-    (refusals f orElse unless (isThere e) 11 0 orElse unless (leb (length (new .nodes)) mostNodes) 12 0 orElse row13 (write new) room)
+    (refusals standard f orElse unless (isThere e) 11 0 orElse unless (leb (length (new .nodes)) mostNodes) 12 0 orElse row13 (write new) room)
     (write new)

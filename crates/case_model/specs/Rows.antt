@@ -8,20 +8,9 @@ use Rattle.flc.specs.Sets.{forAll, forSome, first}
 use Rattle.flc.specs.Formula.{free}
 use Rattle.flc.specs.Bisimulation.{actions}
 use Rattle.case_model.specs.Bytes.{size, pairsHold}
-use Rattle.case_model.specs.Case.{Triple, Case, read, at, rule}
-
--- clauses 1.4, 1.6 and 1.7: how many states, nodes, propositions and variables there can be
-abbrev pub mostStates : ℕ
-mostStates = 16
-
-abbrev pub mostNodes : ℕ
-mostNodes = 64
-
-abbrev pub propositions : ℕ
-propositions = 8
-
-abbrev pub variables : ℕ
-variables = 16
+use Rattle.case_model.specs.Limits.{Limits, mostNodes, variables}
+use Rattle.case_model.specs.Kinds.{Triple, nodeOf, nodeHolds, isBinder}
+use Rattle.case_model.specs.Case.{Case, read, at, nodeAt, rule}
 
 -- what a row finds: nothing, or a refusal with its number and place
 pub data Found : Type 0 where
@@ -56,27 +45,17 @@ stepWrong c i =
     && ltb (at (c .steps) i .2) (length (c .labels))
     && (eqb i 0 || rises (at (c .steps) (i - 1)) (at (c .steps) i)))
 
--- clauses 1.7, 1.8 and 8.5: the lines of the table of kinds, for node j = (k, a, b)
-abbrev pub nodeHolds : ℕ → Triple → Bool
-nodeHolds j (k, a, b) =
-    (leb k 1 && eqb a 0 && eqb b 0)
-    || (leb 2 k && leb k 3 && ltb a propositions && eqb b 0)
-    || (eqb k 4 && ltb a variables && eqb b 0)
-    || (eqb k 5 && eqb a 0 && eqb b 0)
-    || (leb 6 k && leb k 7 && ltb a actions && eqb b 0)
-    || (leb 8 k && leb k 10 && ltb a j && ltb b j)
-    || (leb 11 k && leb k 12 && ltb a variables && ltb b j)
-
+-- clause 8.5: node j is at fault
 abbrev pub nodeWrong : Case → ℕ → Bool
 nodeWrong c j = not (nodeHolds j (at (c .nodes) j))
 
 -- clauses 1.9 and 8.6: node j binds what a lower node binds
 abbrev pub binds : Triple → ℕ → Bool
-binds t v = leb 11 (t .0) && eqb (t .1) v
+binds t v = isBinder (nodeOf t) && eqb (t .1) v
 
 abbrev pub binderWrong : Case → ℕ → Bool
 binderWrong c j =
-    leb 11 (at (c .nodes) j .0) && forSome j (λ i. binds (at (c .nodes) i) (at (c .nodes) j .1))
+    isBinder (nodeAt c j) && forSome j (λ i. binds (at (c .nodes) i) (at (c .nodes) j .1))
 
 -- clauses 1.10 and 8.7: nothing is free in the tree of the root
 unfoldable pub rootClosed : Case → Bool
@@ -84,15 +63,15 @@ rootClosed c = forAll variables (λ v. not (free v (rule c)))
 
 -- ---- the rows of the table of refusals
 -- clause 8.1: the head, or the length of the file
-abbrev pub row1 : List ℕ → Found
-row1 f = unless (pairsHold f) 1 0
+abbrev pub row1 : Limits → List ℕ → Found
+row1 most f = unless (pairsHold most f) 1 0
 
--- clause 8.2: 1 to 16 labels
-abbrev pub labelsHold : Case → Bool
-labelsHold c = leb 1 (length (c .labels)) && leb (length (c .labels)) mostStates
+-- clause 8.2: a label at least, and not too many
+abbrev pub labelsHold : Limits → Case → Bool
+labelsHold most c = leb 1 (length (c .labels)) && leb (length (c .labels)) (most .states)
 
-abbrev pub row2 : Case → Found
-row2 c = unless (labelsHold c) 2 0
+abbrev pub row2 : Limits → Case → Found
+row2 most c = unless (labelsHold most c) 2 0
 
 -- clause 8.3: the length of the section before its steps, at place 0
 abbrev pub row3 : List ℕ → Case → Found
@@ -120,8 +99,8 @@ row7 c = unless (rootClosed c) 7 0
 abbrev pub row8 : ℕ → ℕ → Found
 row8 x count = unless (ltb x count) 8 0
 
--- clauses 6.1 and 7.3: the refusals of a file that is not accepted
-unfoldable pub refusals : List ℕ → Found
-refusals f =
-    row1 f orElse row2 (read f) orElse row3 f (read f) orElse row4 f (read f)
+-- clauses 6.1 and 7.3: the refusals of a file that is not accepted within these limits
+unfoldable pub refusals : Limits → List ℕ → Found
+refusals most f =
+    row1 most f orElse row2 most (read f) orElse row3 f (read f) orElse row4 f (read f)
     orElse row5 (read f) orElse row6 (read f) orElse row7 (read f)

@@ -9,11 +9,11 @@ use lib.Dec.{T}
 use lib.ListN.{length, take}
 use Rattle.flc.specs.Sets.{has, setOf}
 use Rattle.flc.specs.Bisimulation.{bisimulation}
+use Rattle.case_model.specs.Limits.{standard}
 use Rattle.case_model.specs.Case.{Case, read, table}
 use Rattle.case_model.specs.Rows.{sound, refusals}
-use Rattle.case_model.specs.Replies.{Reply, answers, refuses}
+use Rattle.case_model.specs.Replies.{Reply, answers, refuses, counted, written}
 use Rattle.case_model.specs.Judging.{Verdict, row9, judging}
-use Rattle.case_model.specs.Merging.{counted, written}
 use Rattle.case_model.specs.Book.{Edit, merges, Book, begun, reply, turn, book}
 
 -- clause 6.1, a call: the edit that it asks for, given its output area's length; that area before and after it; and its reply
@@ -76,7 +76,7 @@ pub record Kept (first : List ℕ) (l : List Call) (last : List ℕ) : Type 0 wh
   pub file : book (begun first) (map edit l) .file ≡ last
   pub told : replies (begun first) (map edit l) ≡ map (λ (c : Call). c .told) l
   pub unlike : Each UnlikeTold first l
-  pub accepted : refusals last ≡ sound
+  pub accepted : refusals standard last ≡ sound
   pub within : (s : ℕ) → s < length (read first .labels) → book (begun first) (map edit l) .standing s < length (read last .labels)
   pub verdicts : (words words′ : ℕ) → row9 (read first) words ≡ sound → row9 (read last) words′ ≡ sound
       → (s : ℕ) → s < length (read first .labels) → holds first words s ≡ holds last words′ (book (begun first) (map edit l) .standing s)

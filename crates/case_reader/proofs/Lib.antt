@@ -1,1 +1,5 @@
 pub mod Readers
+pub mod FreeSets
+pub mod Knowing
+pub mod Reaching
+pub mod Marking

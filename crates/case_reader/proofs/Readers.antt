@@ -10,9 +10,9 @@ use lib.ListN.{length, getD, List·getD-eq-default}
 use Rattle.flc.specs.Sets.{setOf}
 use Rattle.flc.specs.Formula.{free}
 use Rattle.flc.specs.Nodes.{formulaAt}
-use Rattle.case_model.specs.Bytes.{sections, listOf}
+use Rattle.case_model.specs.Bytes.{listOf}
 use Rattle.case_model.specs.Case.{Case, nodeAt}
-use Rattle.case_model.specs.Rows.{mostNodes, variables}
+use Rattle.case_model.specs.Limits.{mostNodes, variables, sections}
 use Rattle.case_model.proofs.Lists.{getD-listOf, length-listOf}
 use Rattle.case_reader.specs.Read.{freeSets}
 

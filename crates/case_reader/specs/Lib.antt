@@ -1,1 +1,4 @@
 pub mod Read
+pub mod NodeKinds
+pub mod NodeSets
+pub mod StepRows

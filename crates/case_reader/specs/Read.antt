@@ -6,8 +6,9 @@ use Rattle.flc.specs.Sets.{setOf}
 use Rattle.flc.specs.Formula.{free}
 use Rattle.flc.specs.Nodes.{formulaAt}
 use Rattle.case_model.specs.Bytes.{listOf}
+use Rattle.case_model.specs.Kinds as byTable
 use Rattle.case_model.specs.Case as model
-use Rattle.case_model.specs.Rows.{mostNodes, variables}
+use Rattle.case_model.specs.Limits.{mostNodes, variables}
 use Rattle.case_reader.specs.declared.parts.Triple.{Triple}
 
 -- r is x, which is below the bound
@@ -15,11 +16,11 @@ pub record Is (x bound r : ℕ) : Type 0 where
   pub is : r ≡ x
   pub small : r < bound
 
-abbrev pub triple : Triple → model.Triple
+abbrev pub triple : Triple → byTable.Triple
 triple t = (t .0, t .1, t .2)
 
 -- t is the triple of bytes x
-pub record IsTriple (t : Triple) (x : model.Triple) : Type 0 where
+pub record IsTriple (t : Triple) (x : byTable.Triple) : Type 0 where
   pub is : triple t ≡ x
   pub first : t .0 < 256
   pub second : t .1 < 256

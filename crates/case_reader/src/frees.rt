@@ -2,10 +2,13 @@
 ghost use mathlib.Core.Path.{_≡_};
 ghost use Prim.Native.Nat.{_≤_};
 ghost use lib.ListN.{getD};
-ghost use Rattle.case_model.specs.Case.{read};
-ghost use Rattle.case_model.specs.Rows.{mostNodes};
-ghost use Rattle.case_model.proofs.Frees.{single, without, maskOf, masks};
+ghost use Rattle.case_model.specs.Kinds.{nodeOf};
+ghost use Rattle.case_model.specs.Case.{read, nodeAt};
+ghost use Rattle.case_model.specs.Limits.{mostNodes};
+ghost use Rattle.case_reader.specs.NodeSets.{single, without, maskOf, masks};
 ghost use Rattle.case_reader.specs.Read.{triple, freeSets};
+use crate::kinds::Kind;
+use crate::kinds::kind_of;
 use crate::parts::Triple;
 use crate::parts::node;
 use crate::parts::node_count;
@@ -33,27 +36,21 @@ fn entry(t: [u16; 64], i: usize) -> u16
 
 // The free variables of a node, from those of the nodes that it names.
 fn mask_of(t: [u16; 64], x: Triple) -> u16
-    ensures { λ r. ⌜ r ≡ maskOf t (triple x) ⌝ }
+    ensures { λ r. ⌜ r ≡ maskOf t (nodeOf (triple x)) ⌝ }
 {
-    if x.0 == 4 {
-        return single(x.1);
+    let kind = kind_of(x);
+    match kind {
+        Kind::Atom(_) => 0,
+        Kind::Variable => single(x.1),
+        Kind::Two(_) => entry(t, x.1) | entry(t, x.2),
+        Kind::Binder(_) => without(entry(t, x.2), x.1),
     }
-    if x.0 <= 7 {
-        return 0;
-    }
-    if x.0 <= 10 {
-        return entry(t, x.1) | entry(t, x.2);
-    }
-    if x.0 <= 12 {
-        return without(entry(t, x.2), x.1);
-    }
-    0
 }
 
 // Those of each node below j.
 fn below(file: &[u8], j: usize) -> [u16; 64]
     requires { ⌜ j ≤ mostNodes ⌝ }
-    ensures { λ r. ⌜ r ≡ masks (read (now (file .entry)) .nodes) j ⌝ }
+    ensures { λ r. ⌜ r ≡ masks (nodeAt (read (now (file .entry)))) j ⌝ }
 {
     if j == 0 {
         return [0u16; 64];

@@ -1,9 +1,18 @@
-// Reading the parts of a case from any bytes, and the free variables of its nodes: docs/SPECIFICATION.md, section 1.
+// Reading the parts of a case from any bytes, the kinds of its nodes, their free variables and which of them are reached, and its steps as a table:
+// docs/SPECIFICATION.md, section 1.
 mod bytes;
 mod frees;
+mod kinds;
 mod parts;
+mod reach;
+mod steps;
 
 pub use frees::masks;
+pub use kinds::Atom;
+pub use kinds::Kind;
+pub use kinds::Operator;
+pub use kinds::is_binder;
+pub use kinds::kind_of;
 pub use parts::Triple;
 pub use parts::label;
 pub use parts::node;
@@ -14,3 +23,6 @@ pub use parts::section_size;
 pub use parts::state_count;
 pub use parts::step;
 pub use parts::step_count;
+pub use reach::reached;
+pub use steps::mark;
+pub use steps::step_rows;

@@ -11,8 +11,10 @@ use Rattle.flc.specs.Nodes.{Node, lower, formulaAt}
 use Rattle.flc.proofs.Tests.{both-left, both-right}
 use Rattle.flc.proofs.Packing.{look, pack, packed}
 use Rattle.flc.proofs.Evaluation.{loop, set, start, onMasks, eval, runNode, run, run-mean, run-rounds, run-approx}
+use Rattle.case_model.specs.Limits.{standard}
 use Rattle.case_model.specs.Bytes.{listOf, chained, pairsHold, section}
-use Rattle.case_model.specs.Case.{Case, read, listed, table, kinds, nodeOf, nodeAt, rule}
+use Rattle.case_model.specs.Case.{Case, read, listed, table, nodeAt, rule}
+use Rattle.case_model.specs.Kinds.{kinds, kindAt}
 use Rattle.case_model.specs.Rows.{Found, sound, refused, lowest, rootClosed, refusals}
 use Rattle.drives.specs.Drives.{Drive, Each, Right, drives}
 
@@ -53,7 +55,7 @@ test d =
     let L : Table = table c in
     let r : ℕ → ℕ × ℕ = run L (nodeAt c) (c .root) in
     let e : ℕ × ℕ = r (L .n * 2 ^ L .n) in
-    both (isSound (refusals (d .file)))
+    both (isSound (refusals standard (d .file)))
     (both (each (eqb (e .1)) (d .rounds))
     (both (each (λ (x, y). takes (L .n) (e .0) x y) (d .values))
     (each (λ (k, x, y). takes (L .n) ((r k) .0) x y) (d .approximants))))
@@ -68,7 +70,7 @@ passes d t =
     let j : ℕ = c .root in
     let most : ℕ = L .n * 2 ^ L .n in
     record {
-      accepted = sound-use (refusals (d .file)) (both-left _ _ t);
+      accepted = sound-use (refusals standard (d .file)) (both-left _ _ t);
       counts = each-use _ _ (λ k u. sym (run-rounds L N j) ∙ eqb→eq ((run L N j most) .1) k u) (d .rounds) (both-left _ _ (both-right _ _ t));
       gives =
           each-use _ _ (λ (x, y). takes-use (L .n) ((run L N j most) .0) x y _ (run-mean L N j x))
@@ -81,5 +83,5 @@ passes d t =
 
 -- every drive of the table passes
 pub drives-right : Each Right drives
-unfolding drives test isSound each takes look pack packed loop set start onMasks eval runNode run lower meanAtom both either implies forAll forSome first has setOf free formulaAt listOf chained pairsHold section listed table kinds nodeOf nodeAt rule lowest rootClosed refusals
+unfolding drives test isSound each takes look pack packed loop set start onMasks eval runNode run lower meanAtom both either implies forAll forSome first has setOf free formulaAt listOf chained pairsHold section listed table kinds kindAt nodeAt rule lowest rootClosed refusals
 drives-right = each-use test Right passes drives tt

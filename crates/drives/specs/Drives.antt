@@ -5,6 +5,7 @@ use mathlib.Core.List.{List, [], _∷_}
 use Prim.Native.Nat.{ℕ}
 use Rattle.flc.specs.Formula.{mean, none}
 use Rattle.flc.specs.Nodes.{lower, approximantOf, roundsAt}
+use Rattle.case_model.specs.Limits.{standard}
 use Rattle.case_model.specs.Case.{Case, read, table, nodeAt, rule}
 use Rattle.case_model.specs.Rows.{sound, refusals}
 
@@ -25,7 +26,7 @@ Each P (a ∷ l) = P a × Each P l
 
 -- the file is accepted, and its case c has the rounds, values and approximants listed
 pub record Shows (d : Drive) (c : Case) : Type 0 where
-  pub accepted : refusals (d .file) ≡ sound
+  pub accepted : refusals standard (d .file) ≡ sound
   pub counts : Each (λ k. roundsAt (table c) (nodeAt c) (c .root) ≡ k) (d .rounds)
   pub gives : Each (λ (x, y). mean (table c) (rule c) none x ≡ y) (d .values)
   pub approaches : Each (λ (k, x, y). approximantOf (table c) (nodeAt c (c .root)) (lower (nodeAt c) (c .root)) k x ≡ y) (d .approximants)

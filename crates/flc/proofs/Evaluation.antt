@@ -12,11 +12,11 @@ use Rattle.flc.specs.Functions.{Fun, agree, approximant, rounds}
 use Rattle.flc.specs.Formula.{Table, Op, or, and, chop, Formula, atom, var, op, fix, meanAtom, Env, put, mean, none}
 use Rattle.flc.specs.Nodes.{Node, leaf, two, bind, tree, lower, formulaAt, approximantOf, roundsOf, roundsAt}
 use Rattle.flc.proofs.Masks.{or-setOf, and-setOf}
-use Rattle.flc.proofs.Order.{Agree, Good}
+use Rattle.flc.specs.Order.{Agree, Good, GoodEnv}
 use Rattle.flc.proofs.FixedPoints.{approx-good}
 use Rattle.flc.proofs.Rounds.{fixed-late}
 use Rattle.flc.proofs.Packing.{look, packed, packed-agree, look-packed, packed-eqb}
-use Rattle.flc.proofs.Meanings.{combine, mean-op, mean-fix, GoodEnv, none-good, put-good, mean-nice, mean-steady}
+use Rattle.flc.proofs.Meanings.{combine, mean-op, mean-fix, none-good, put-good, mean-nice, mean-steady}
 
 -- ---- what is computed
 

@@ -8,7 +8,8 @@ use Rattle.flc.specs.Sets.{both, implies, has, setOf}
 use Rattle.flc.specs.Functions.{Fun, below, monotone, forAllFun, forSomeFun, meet, join, approximant}
 use Rattle.flc.proofs.Tests.{implies-use, implies-mk, both-left, both-right, both-mk, not-not, not-both}
 use Rattle.flc.proofs.Masks.{has-setOf, setOf-lt}
-use Rattle.flc.proofs.Order.{signed, In, Below, Agree, Good, below-flip, below-antisym, agree-below, below-trans, good-mono, good-by, good-agree, below-use, below-mk, monotone-use, monotone-mk, cut, cut-at, forAllFun-use, forAllFun-mk}
+use Rattle.flc.proofs.Order.{below-flip, below-antisym, agree-below, below-trans, good-mono, good-by, good-agree, below-use, below-mk, monotone-use, monotone-mk, cut, cut-at, forAllFun-use, forAllFun-mk}
+use Rattle.flc.specs.Order.{signed, In, Below, Agree, Good}
 
 -- the least for the flag true, the greatest for false
 abbrev pub fixed : Bool → ℕ → (Fun → Fun) → Fun

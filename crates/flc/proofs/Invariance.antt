@@ -10,10 +10,10 @@ use Rattle.flc.specs.Functions.{Fun, approximant}
 use Rattle.flc.specs.Formula.{Table, Atom, top, bottom, tau, prop, nprop, dia, box, or, and, chop, Formula, atom, var, op, fix, meanAtom, Env, put, mean}
 use Rattle.flc.proofs.Tests.{bool-ext, both-left, both-right, both-mk, implies-use, implies-mk, forAll-use, forAll-mk, forSome-use, forSome-mk}
 use Rattle.flc.proofs.Masks.{has-setOf}
-use Rattle.flc.proofs.Order.{Agree}
+use Rattle.flc.specs.Order.{Agree, GoodEnv}
 use Rattle.flc.proofs.FixedPoints.{approx-good}
 use Rattle.flc.proofs.Rounds.{fixed-late}
-use Rattle.flc.proofs.Meanings.{GoodEnv, put-two, put-good, mean-fix, mean-small, mean-steady}
+use Rattle.flc.proofs.Meanings.{put-two, put-good, mean-fix, mean-small, mean-steady}
 
 -- each step of the state s of L is met by a step of the state t of M with the same action into a related state
 abbrev pub Met : (L M : Table) → (ℕ → ℕ → Type 0) → ℕ → ℕ → Type 0

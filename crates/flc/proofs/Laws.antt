@@ -6,12 +6,12 @@ use mathlib.Core.Bool.{Bool, true, false}
 use Prim.Native.Nat.{ℕ, _^_, _<_}
 use Rattle.flc.specs.Sets.{both, either, has, setOf}
 use Rattle.flc.specs.Formula.{Table, Atom, top, bottom, tau, prop, nprop, dia, box, Op, or, and, chop, Formula, atom, op, fix, meanAtom, Env, put, mean}
-use Rattle.flc.specs.Nodes.{Node, leaf, two, bind, tree}
+use Rattle.flc.specs.Nodes.{Node, leaf, two, bind, tree, Names}
 use Rattle.flc.proofs.Masks.{setOf-ext, setOf-has}
-use Rattle.flc.proofs.Order.{Agree, below-antisym, agree-below}
+use Rattle.flc.proofs.Order.{below-antisym, agree-below}
+use Rattle.flc.specs.Order.{Agree, GoodEnv}
 use Rattle.flc.proofs.FixedPoints.{fixed-good, fixed-rises}
-use Rattle.flc.proofs.Meanings.{GoodEnv, put-good, mean-fix, mean-small, mean-steady}
-use Rattle.flc.proofs.Unfolding.{Names}
+use Rattle.flc.proofs.Meanings.{put-good, mean-fix, mean-small, mean-steady}
 
 -- p and q mean the same over L
 abbrev pub Same : Table → Formula → Formula → Type 0

@@ -3,11 +3,11 @@
 use mathlib.Core.Path.{_≡_, refl, sym, ap, ap₂, _∙_}
 use mathlib.Core.Bool.{Bool, true, false}
 use Prim.Native.Nat.{ℕ, zero, suc, _+_, _*_, _/_, _%_, _^_, _≤_, _<_, suc-le-suc, min, max}
-use native.Mathlib.Nat.{le-of-suc-le-suc, not-suc-le-zero, div-one, add-comm}
+use native.Mathlib.Nat.{le-of-suc-le-suc, not-suc-le-zero, div-one, add-comm, zero-div, div-eq-of-lt, lt-of-lt-of-le}
 use native.Mathlib.Numerals.{add-one}
 use native.Mathlib.Omega.{arith}
-use lib.Dec.{eqb}
-use lib.Pow.{shr-shr}
+use lib.Dec.{eqb, eqb·zero-suc, eqb·suc-zero, eqb·suc-suc}
+use lib.Pow.{shr-shr, pow-mono}
 use lib.Bits.{bitOr, bitAnd, or-shr, and-shr, or-step, and-step, or-lt, and-lt}
 use Rattle.flc.specs.Sets.{both, either, has, bit, setOf}
 
@@ -127,3 +127,29 @@ or-setOf n x y h k = digits bitOr either or-shr or-low n x y (or-lt n x y h k)
 
 pub and-setOf : (n x y : ℕ) → x < 2 ^ n → y < 2 ^ n → bitAnd x y ≡ setOf n (λ s. both (has x s) (has y s))
 and-setOf n x y h k = digits bitAnd both and-shr and-low n x y (and-lt n x y h k)
+
+-- ---- members
+pub has-empty : (t : ℕ) → has 0 t ≡ false
+unfolding has
+has-empty t = rw (zero-div (2 ^ t))
+
+-- a set of states below n has no other
+pub has-beyond : (n x t : ℕ) → x < 2 ^ n → n ≤ t → has x t ≡ false
+unfolding has
+has-beyond n x t h k = let l : x < 2 ^ t = lt-of-lt-of-le h (pow-mono k) in rw (div-eq-of-lt l)
+
+pub has-single : (k t : ℕ) → has (2 ^ k) t ≡ eqb k t
+has-single zero zero = has-zero 1
+has-single zero (suc t) = has-suc 1 t ∙ has-empty t ∙ sym (eqb·zero-suc t)
+has-single (suc k) zero =
+    let e : 2 ^ suc k % 2 ≡ 0 = omega arith in
+    has-zero (2 ^ suc k) ∙ ap (λ x. eqb x 1) e ∙ sym (eqb·suc-zero k)
+has-single (suc k) (suc t) =
+    let e : 2 ^ suc k / 2 ≡ 2 ^ k = omega arith in
+    has-suc (2 ^ suc k) t ∙ ap (λ x. has x t) e ∙ has-single k t ∙ sym (eqb·suc-suc k t)
+
+-- ---- no state
+pub setOf-none : (n : ℕ) → setOf n (λ s. false) ≡ 0
+unfolding setOf
+setOf-none zero = refl
+setOf-none (suc n) = omega (arith, setOf-none n)

@@ -12,7 +12,8 @@ use Rattle.flc.specs.Functions.{Fun}
 use Rattle.flc.specs.Formula.{Table, Atom, top, bottom, tau, prop, nprop, dia, box, Op, or, and, chop, Formula, atom, var, op, fix, meanAtom, Env, put, mean, none, free}
 use Rattle.flc.proofs.Tests.{Rises, both-rises, either-rises, forAll-rises, forSome-rises, both-mk, either-left, either-right, implies-use, implies-mk}
 use Rattle.flc.proofs.Masks.{setOf-lt, or-setOf, and-setOf}
-use Rattle.flc.proofs.Order.{Below, Agree, Good, below-flip, below-antisym, below-trans, agree-below, good-agree, setOf-sub}
+use Rattle.flc.proofs.Order.{below-flip, below-antisym, below-trans, agree-below, good-agree, setOf-sub}
+use Rattle.flc.specs.Order.{Below, Agree, Good, GoodEnv}
 use Rattle.flc.proofs.FixedPoints.{fixed, Steady, Rising, fixed-use, fixed-mk, fixed-good, fixed-below, fixed-fixed, fixed-rises}
 
 -- ---- the binary operators and the binders, each as one
@@ -84,10 +85,6 @@ combine-rises and {n} f′ F G G′ h k = λ x i. setOf-sub n _ _ (λ s l. both-
 combine-rises chop f′ F G G′ h k = λ x i s l t. h _ (G′ .small x i) s l (F .mono _ _ (G .small x i) (G′ .small x i) (k x i) s l t)
 
 -- ---- environments
-
--- a function for each variable, all of them monotone
-abbrev pub GoodEnv : ℕ → Env → Type 0
-GoodEnv n ρ = (v : ℕ) → Good n (ρ v)
 
 -- the environment of a root
 pub none-good : (n : ℕ) → GoodEnv n none

@@ -1,5 +1,5 @@
--- Containment of sets and the order of functions, as types; what the tests of that order say; all functions on finitely many numbers.
--- One order and its reverse are treated at once, by a flag: true for containment, false for its reverse.
+-- Laws of containment of sets and of the order of functions; what the tests of that order say; all functions on finitely many numbers.
+-- By cases on the flag, and by what a test over finitely many numbers says of each of them.
 use mathlib.Core.Path.{_≡_, refl, sym, subst}
 use mathlib.Core.Bool.{Bool, true, false, not}
 use Prim.Native.Nat.{ℕ, zero, suc, _^_, _<_, suc-le-suc}
@@ -8,34 +8,9 @@ use native.Mathlib.Omega.{arith}
 use lib.Dec.{T, eqb→eq, eqb-refl, T-not, not-T}
 use Rattle.flc.specs.Sets.{has, setOf}
 use Rattle.flc.specs.Functions.{Fun, contained, below, monotone, agree, cons, forAllFun, forSomeFun}
+use Rattle.flc.specs.Order.{signed, In, Sub, Below, Agree, Good}
 use Rattle.flc.proofs.Tests.{bool-ext, implies-use, implies-mk, not-not, forAll-use, forAll-mk, forAll-fails}
 use Rattle.flc.proofs.Masks.{has-setOf, set-ext}
-
--- b itself; with the flag false its complement
-abbrev pub signed : Bool → Bool → Bool
-signed true b = b
-signed false b = not b
-
--- s is in x; with the flag false: is not
-abbrev pub In : Bool → ℕ → ℕ → Type 0
-In d x s = T (signed d (has x s))
-
--- x is contained in y; with the flag false: y in x
-abbrev pub Sub : Bool → ℕ → ℕ → ℕ → Type 0
-Sub d n x y = (s : ℕ) → s < n → In d x s → In d y s
-
--- f is below g at every set
-abbrev pub Below : Bool → ℕ → Fun → Fun → Type 0
-Below d n f g = (x : ℕ) → x < 2 ^ n → Sub d n (f x) (g x)
-
--- f and g are equal at every set
-abbrev pub Agree : ℕ → Fun → Fun → Type 0
-Agree n f g = (x : ℕ) → x < 2 ^ n → f x ≡ g x
-
--- a monotone function on sets
-pub record Good (n : ℕ) (f : Fun) : Type 0 where
-  pub small : (x : ℕ) → x < 2 ^ n → f x < 2 ^ n
-  pub mono : (x y : ℕ) → x < 2 ^ n → y < 2 ^ n → Sub true n x y → Sub true n (f x) (f y)
 
 -- ---- laws of the order
 

@@ -8,7 +8,8 @@ use lib.Arith.{digits-div, digits-mod}
 use lib.Dec.{eqb, eqb→eq, eqb-refl}
 use Rattle.flc.specs.Functions.{Fun, agree}
 use Rattle.flc.proofs.Tests.{bool-ext}
-use Rattle.flc.proofs.Order.{Agree, Good, agree-use, agree-mk}
+use Rattle.flc.proofs.Order.{agree-use, agree-mk}
+use Rattle.flc.specs.Order.{Agree, Good}
 
 -- digit x of t to the base b
 unfoldable pub look : ℕ → ℕ → Fun

@@ -9,7 +9,8 @@ use native.Mathlib.Decide.{ℕ-discrete, decLt, le-ind}
 use native.Mathlib.Omega.{arith}
 use Rattle.flc.specs.Functions.{Fun, agree, approximant, rounds}
 use Rattle.flc.proofs.Tests.{first-le, first-passes, first-least}
-use Rattle.flc.proofs.Order.{Below, Agree, below-antisym, agree-use, agree-mk}
+use Rattle.flc.proofs.Order.{below-antisym, agree-use, agree-mk}
+use Rattle.flc.specs.Order.{Below, Agree}
 use Rattle.flc.proofs.Weight.{weight, weight-le, weight-max, weight-eq}
 use Rattle.flc.proofs.FixedPoints.{fixed, Steady, steady-rises, iterate, Rising, iterate-good, iterate-rises, iterate-fixed, approx-iterate, approx-rising}
 

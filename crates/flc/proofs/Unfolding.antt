@@ -1,20 +1,14 @@
 -- The tree of a node is made of the trees of the nodes that it names, if those are lower.
 -- By induction on the node number: a table of lower trees holds the tree of each of its nodes.
 use mathlib.Core.Path.{_≡_, refl, sym, ap, ap₂}
-use mathlib.Core.Logic.{_⊎_, inl, inr}
+use mathlib.Core.Logic.{inl, inr}
 use Prim.Native.Nat.{ℕ, zero, suc, _<_}
 use native.Mathlib.Nat.{not-suc-le-zero}
 use native.Mathlib.Decide.{ℕ-discrete}
 use native.Mathlib.Omega.{arith}
 use borrow.Author.Tests.{eq-eqb, ne-eqb}
 use Rattle.flc.specs.Formula.{Formula, op, fix}
-use Rattle.flc.specs.Nodes.{Node, leaf, two, bind, tree, lower, formulaAt}
-
--- the node names node i
-abbrev pub Names : Node → ℕ → Type 0
-Names (leaf p) i = ⊥
-Names (two o a b) i = (i ≡ a) ⊎ (i ≡ b)
-Names (bind d v b) i = i ≡ b
+use Rattle.flc.specs.Nodes.{Node, leaf, two, bind, Names, tree, lower, formulaAt}
 
 -- node j names only lower nodes
 abbrev pub Lower : (ℕ → Node) → ℕ → Type 0

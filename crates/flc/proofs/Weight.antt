@@ -9,7 +9,7 @@ use lib.Dec.{T}
 use Rattle.flc.specs.Sets.{has, bit}
 use Rattle.flc.specs.Functions.{Fun}
 use Rattle.flc.proofs.Masks.{bit-le}
-use Rattle.flc.proofs.Order.{signed, Below}
+use Rattle.flc.specs.Order.{signed, Below}
 
 -- f 0 + .. + f (k - 1)
 sum : ℕ → (ℕ → ℕ) → ℕ

@@ -1,5 +1,6 @@
 pub mod Sets
 pub mod Functions
 pub mod Formula
+pub mod Order
 pub mod Nodes
 pub mod Bisimulation

@@ -1,5 +1,7 @@
 -- A rule as numbered nodes, each one layer of a tree, and the tree that a node stands for: docs/SPECIFICATION.md, clause 1.8.
 use mathlib.Core.Bool.{Bool, cond}
+use mathlib.Core.Logic.{_⊎_}
+use mathlib.Core.Path.{_≡_}
 use Prim.Native.Nat.{ℕ, zero, suc}
 use lib.Dec.{eqb}
 use Rattle.flc.specs.Functions.{Fun, approximant, rounds}
@@ -10,6 +12,12 @@ pub data Node : Type 0 where
   leaf : Formula → Node
   two : Op → ℕ → ℕ → Node
   bind : Bool → ℕ → ℕ → Node
+
+-- clause 1.8: the nodes that a node names
+abbrev pub Names : Node → ℕ → Type 0
+Names (leaf p) i = ⊥
+Names (two o a b) i = (i ≡ a) ⊎ (i ≡ b)
+Names (bind d v b) i = i ≡ b
 
 -- the tree of a node, from the trees of the nodes that it names
 abbrev pub tree : Node → (ℕ → Formula) → Formula

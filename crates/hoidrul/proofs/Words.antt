@@ -16,10 +16,11 @@ use Rattle.flc.specs.Bisimulation.{alike}
 use Rattle.flc.proofs.Tests.{first-le}
 use Rattle.case_model.specs.Bytes.{listOf, byteAt}
 use Rattle.case_model.specs.Case.{Case, read, write, table, nodeAt}
-use Rattle.case_model.specs.Rows.{Found, sound, refused, _orElse_, unless, mostNodes, row8, refusals}
-use Rattle.case_model.specs.Replies.{replied}
+use Rattle.case_model.specs.Rows.{Found, sound, refused, _orElse_, unless, row8, refusals}
+use Rattle.case_model.specs.Limits.{mostNodes, standard}
+use Rattle.case_model.specs.Replies.{replied, row13, counted}
 use Rattle.case_model.specs.Judging.{verdict, row9, judging}
-use Rattle.case_model.specs.Merging.{row13, counted, lowestAlike, classing, merge, row10, merging}
+use Rattle.case_model.specs.Merging.{lowestAlike, classing, merge, row10, merging}
 use Rattle.case_model.specs.Rewriting.{Change, change, isThere, rewrite, rewriting}
 use Rattle.case_model.proofs.Sections.{left-sound}
 use Rattle.case_model.proofs.Valid.{accepted-valid}
@@ -53,15 +54,15 @@ module _ (f : List ℕ) (bytes : (i : ℕ) → byteAt f i < 256) where
   judging-fits x words =
       let c : Case = read f in
       fits-replied Brief _ (verdict c x)
-      (later (later (refusals-placed f bytes) (ltb x (2 ^ length (c .labels))) 8) (leb (2 * length (c .nodes) * 2 ^ length (c .labels)) words) 9)
-      (λ s. let v = accepted-valid f (left-sound (refusals f) (row8 x (2 ^ length (c .labels))) (left-sound _ (row9 c words) s)) in
-      omega (arith, rounds-small (table c) (nodeAt c (c .root)) (lower (nodeAt c) (c .root)), most (length (c .labels)) (v .few)))
+      (later (later (refusals-placed standard f bytes) (ltb x (2 ^ length (c .labels))) 8) (leb (2 * length (c .nodes) * 2 ^ length (c .labels)) words) 9)
+      (λ s. let v = accepted-valid standard f (left-sound (refusals standard f) (row8 x (2 ^ length (c .labels))) (left-sound _ (row9 c words) s)) in
+      omega (arith, rounds-small (table c) (nodeAt c (c .root)) (lower (nodeAt c) (c .root)), most (length (c .labels)) (v .table .few)))
 
   pub classing-fits : (room : ℕ) → Fits Any (counted (classing f room))
   unfolding classing
   classing-fits room =
       let new : List ℕ = listOf (length (read f .labels)) (lowestAlike (table (read f))) in
-      counts (refusals f orElse row13 new room) new (later (refusals-placed f bytes) (leb (length new) room) 13)
+      counts (refusals standard f orElse row13 new room) new (later (refusals-placed standard f bytes) (leb (length new) room) 13)
 
   pub merging-fits : (s t room : ℕ) → Fits Any (counted (merging f s t room))
   unfolding merging
@@ -69,8 +70,8 @@ module _ (f : List ℕ) (bytes : (i : ℕ) → byteAt f i < 256) where
       let c : Case = read f in
       let n : ℕ = length (c .labels) in
       let new : List ℕ = write (merge c (min s t) (max s t)) in
-      counts (refusals f orElse row8 s n orElse row8 t n orElse row10 c s t orElse row13 new room) new
-      (later (later (later (later (refusals-placed f bytes) (ltb s n) 8) (ltb t n) 8) (not (eqb s t) && alike (table c) s t) 10) (leb (length new) room) 13)
+      counts (refusals standard f orElse row8 s n orElse row8 t n orElse row10 c s t orElse row13 new room) new
+      (later (later (later (later (refusals-placed standard f bytes) (ltb s n) 8) (ltb t n) 8) (not (eqb s t) && alike (table c) s t) 10) (leb (length new) room) 13)
 
   pub rewriting-fits : (law j room : ℕ) → Fits Any (counted (rewriting f law j room))
   unfolding rewriting
@@ -78,6 +79,6 @@ module _ (f : List ℕ) (bytes : (i : ℕ) → byteAt f i < 256) where
       let e : Change = change (read f .nodes) law j in
       let new : Case = rewrite (read f) j e in
       counts
-      (refusals f orElse unless (isThere e) 11 0 orElse unless (leb (length (new .nodes)) mostNodes) 12 0 orElse row13 (write new) room)
+      (refusals standard f orElse unless (isThere e) 11 0 orElse unless (leb (length (new .nodes)) mostNodes) 12 0 orElse row13 (write new) room)
       (write new)
-      (later (later (later (refusals-placed f bytes) (isThere e) 11) (leb (length (new .nodes)) mostNodes) 12) (leb (length (write new)) room) 13)
+      (later (later (later (refusals-placed standard f bytes) (isThere e) 11) (leb (length (new .nodes)) mostNodes) 12) (leb (length (write new)) room) 13)

@@ -2,17 +2,16 @@
 ghost use mathlib.Core.Path.{_≡_};
 ghost use Prim.Native.Nat.{_+_, _*_, _^_, _<_};
 ghost use lib.ListN.{length};
-ghost use Rattle.case_model.specs.Replies.{vetting, opening, openedAt};
+ghost use Rattle.case_model.specs.Replies.{vetting, opening, openedAt, counted, written};
 ghost use Rattle.case_model.specs.Judging.{judging, cleared};
-ghost use Rattle.case_model.specs.Merging.{counted, written, classing, merging};
+ghost use Rattle.case_model.specs.Merging.{classing, merging};
 ghost use Rattle.case_model.specs.Rewriting.{rewriting};
-ghost use Rattle.case_file.specs.Told.{number};
-ghost use Rattle.judge.specs.Told.{told as toldJudged};
-ghost use Rattle.bisim.specs.Told.{told as toldWritten};
+ghost use Rattle.case_file.specs.EnumNumbers.{number, writtenReply};
+ghost use Rattle.judge.specs.EnumNumbers.{judgedReply};
 ghost use Rattle.hoidrul.specs.Packing.{packed, countsWord, refusalWord, spanWord, verdictWord, itself, Fits, Brief, Any};
-use bisim::Written;
 use case_file::Refusal;
 use case_file::Vetted;
+use case_file::Written;
 use judge::Judged;
 
 // A refusal has bit 63 set, its number from bit 32 on, and its place below that.
@@ -50,8 +49,8 @@ pub extern "C" fn hoidrul_open(file: &[u8], section: usize) -> u64
 }
 
 fn verdict_word(judged: Judged) -> u64
-    requires { ⌜ Fits Brief (toldJudged judged) ⌝ }
-    ensures { λ r. ⌜ r ≡ packed verdictWord (toldJudged judged) ⌝ }
+    requires { ⌜ Fits Brief (judgedReply judged) ⌝ }
+    ensures { λ r. ⌜ r ≡ packed verdictWord (judgedReply judged) ⌝ }
 {
     match judged {
         Judged::Verdict(verdict) => verdict.set as u64 + verdict.rounds as u64 * 65536,
@@ -60,8 +59,8 @@ fn verdict_word(judged: Judged) -> u64
 }
 
 fn count_word(written: Written) -> u64
-    requires { ⌜ Fits Any (toldWritten written) ⌝ }
-    ensures { λ r. ⌜ r ≡ packed itself (toldWritten written) ⌝ }
+    requires { ⌜ Fits Any (writtenReply written) ⌝ }
+    ensures { λ r. ⌜ r ≡ packed itself (writtenReply written) ⌝ }
 {
     match written {
         Written::Bytes(count) => count as u64,

@@ -1,7 +1,7 @@
 -- A binder's loop: its block goes through the iterates of the body, and the first that is as the next is the fixed point.
 -- One round computes the lower nodes with the last iterate for the variable; what does not depend on the variable stays right.
 -- As the iterates rise, the lower nodes are then those of an environment below the next.
-use Prim.Native.Nat.{ℕ, suc, _+_, _*_, _^_, _<_}
+use Prim.Native.Nat.{ℕ, suc, _*_, _^_, _<_}
 use mathlib.Core.Bool.{Bool}
 use mathlib.Core.List.{List}
 use mathlib.Core.Path.{_≡_, refl, sym, ap, _∙_, subst}
@@ -15,20 +15,20 @@ use lib.Pow.{pow-lt}
 use Rattle.flc.specs.Sets.{either, has}
 use Rattle.flc.specs.Functions.{Fun, approximant}
 use Rattle.flc.specs.Formula.{fix, Env, put, mean}
-use Rattle.flc.specs.Nodes.{Node, bind, tree, formulaAt}
+use Rattle.flc.specs.Nodes.{bind, tree, formulaAt}
 use Rattle.flc.proofs.Tests.{either-left, either-right, either-use}
-use Rattle.flc.proofs.Masks.{has-or}
-use Rattle.flc.proofs.Order.{Below, Agree}
+use Rattle.flc.proofs.Masks.{has-or, has-single}
+use Rattle.flc.specs.Order.{Below, Agree, GoodEnv}
 use Rattle.flc.proofs.FixedPoints.{Steady, iterate, Rising, iterate-good, iterate-rises, iterate-fixed, approx-iterate}
 use Rattle.flc.proofs.Rounds.{rounds-unique}
-use Rattle.flc.proofs.Meanings.{GoodEnv, put-two, put-good, mean-steady, mean-fix, mean-free}
+use Rattle.flc.proofs.Meanings.{put-two, put-good, mean-steady, mean-fix, mean-free}
 use Rattle.flc.proofs.Unfolding.{formulaAt-node}
 use Rattle.case_model.specs.Case.{Case, table, nodeAt}
-use Rattle.case_model.proofs.Nodes.{Fits, fits-constant, fits-variable, fits-pair, fits-binder, node-fits, node-lower}
-use Rattle.judge.specs.Tables.{Advanced, from}
+use Rattle.case_model.proofs.Nodes.{node-lower}
+use Rattle.judge.specs.Tables.{Advanced}
+use Rattle.case_model.specs.Areas.{from}
 use Rattle.judge.specs.Plans.{Plan, Within, scope, home, block, Ready, Matches, Right, Kept, Older, Grown, Refreshed, Computable, roundsIn}
-use Rattle.judge.proofs.Digits.{has-add}
-use Rattle.judge.proofs.Modal.{has-none}
+use Rattle.judge.proofs.Values.{binder-fits}
 use Rattle.judge.proofs.Rightness.{size-is, kept-block, filled-lower}
 
 -- the body of a binder, as a map on functions, and its iterates
@@ -64,31 +64,22 @@ put-other : (ρ : Env) (v u : ℕ) (f : Fun) → (u ≡ v → ⊥) → put ρ v 
 unfolding put
 put-other ρ v u f h = rw (ne-eqb u v h)
 
-pub has-one : (v u : ℕ) → has (2 ^ v) u ≡ either (eqb u v) (has 0 u)
-has-one v u = let e : 0 + 2 ^ v ≡ 2 ^ v = omega arith in ap (λ x. has x u) (sym e) ∙ has-add v u 0 (has-none v)
-
 -- a variable of act | 2^v
 wide-use : {Q : Type 0} (act v u : ℕ) → (T (has act u) → Q) → (u ≡ v → Q) → T (has (bitOr act (2 ^ v)) u) → Q
 wide-use act v u f g t =
-    either-use _ _ f (λ s. either-use _ _ (λ e. g (eqb→eq u v e)) (λ z. absurd (subst T (has-none u) z)) (subst T (has-one v u) s))
-    (subst T (has-or act (2 ^ v) u) t)
+    either-use _ _ f (λ s. g (sym (eqb→eq v u (subst T (has-single v u) s)))) (subst T (has-or act (2 ^ v) u) t)
 
 wide-mk : (act v u : ℕ) → T (either (has act u) (eqb u v)) → T (has (bitOr act (2 ^ v)) u)
 wide-mk act v u t =
-    subst T (sym (has-or act (2 ^ v) u)) (either-use _ _ (either-left _ _) (λ e. either-right _ _ (subst T (sym (has-one v u)) (either-left _ _ e))) t)
+    subst T (sym (has-or act (2 ^ v) u)) (either-use _ _ (either-left _ _)
+    (λ e. either-right (has act u) (has (2 ^ v) u) (subst T (sym (has-single v u ∙ eq-eqb v u (sym (eqb→eq u v e)))) tt)) t)
 
 module _ {c : Case} {p : Plan} {w : List ℕ} {j act : ℕ} (C : Computable c p w j act) (d : Bool) (v b : ℕ) (e : nodeAt c j ≡ bind d v b) where
   there : j < length (c .nodes)
   there = C .ready .below
 
   pub binds-low : (v < 16) × (b < j)
-  binds-low = go (nodeAt c j) (node-fits (C .ready .planned .valid) j there) e
-    where
-      go : (m : Node) → Fits j m → m ≡ bind d v b → (v < 16) × (b < j)
-      go _ (fits-constant y) q = absurd (let z : _≡_ {A = ℕ} 0 1 = cc in omega arith)
-      go _ (fits-variable u l) q = absurd (let z : _≡_ {A = ℕ} 0 1 = cc in omega arith)
-      go _ (fits-pair o f g h l) q = absurd (let z : _≡_ {A = ℕ} 0 1 = cc in omega arith)
-      go _ (fits-binder f u g h l) q = let a : u ≡ v = cc in let z : g ≡ b = cc in (omega arith, omega arith)
+  binds-low = binder-fits (C .ready .planned .valid .rule) j there e
 
   here : home p v ≡ j
   here = C .ready .planned .homes j there e
@@ -106,7 +97,7 @@ module _ {c : Case} {p : Plan} {w : List ℕ} {j act : ℕ} (C : Computable c p 
 
   -- the node's meaning, from that of its body
   pub binder-mean : (ρ : Env) → mean (table c) (formulaAt (nodeAt c) j) ρ ≡ mean (table c) (fix d v (formulaAt (nodeAt c) b)) ρ
-  binder-mean ρ = ap (λ φ. mean (table c) φ ρ) (formulaAt-node (nodeAt c) j (node-lower (C .ready .planned .valid) j there) ∙ ap (λ m. tree m (formulaAt (nodeAt c))) e)
+  binder-mean ρ = ap (λ φ. mean (table c) φ ρ) (formulaAt-node (nodeAt c) j (node-lower (C .ready .planned .valid .rule) j there) ∙ ap (λ m. tree m (formulaAt (nodeAt c))) e)
 
   -- what the recursion needs
   pub wide-ready : {u : List ℕ} → Kept p w u (suc j) → Ready c p u j (bitOr act (2 ^ v))

@@ -57,12 +57,7 @@ has-rest (suc n) p (suc s) h k =
     let e : (2 ^ suc n - 1 - p) / 2 ≡ 2 ^ n - 1 - p / 2 = omega arith in
     has-suc (2 ^ suc n - 1 - p) s ∙ ap (λ y. has y s) e ∙ has-rest n (p / 2) s (omega arith) (le-of-suc-le-suc k) ∙ ap not (sym (has-suc p s))
 
--- a set of states below s
-pub has-high : (s y : ℕ) → y < 2 ^ s → has y s ≡ false
-has-high zero y h = has-zero y ∙ ne-eqb (y % 2) 1 (λ e. omega arith)
-has-high (suc s) y h = has-suc y s ∙ has-high s (y / 2) (omega arith)
-
--- such a set, with all states above s
+-- a set of states below s, with all states above s
 pub has-gap : (s n y : ℕ) → s < n → y < 2 ^ s → has (2 ^ n - 2 ^ s * 2 + y) s ≡ false
 has-gap s zero y l h = absurd (not-suc-le-zero l)
 has-gap zero (suc n) y l h = has-zero _ ∙ ne-eqb ((2 ^ suc n - 2 + y) % 2) 1 (λ e. omega (arith, pow-pos n))

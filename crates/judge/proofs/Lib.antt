@@ -1,4 +1,4 @@
-pub mod Filling
+pub mod Comparing
 pub mod Digits
 pub mod Modal
 pub mod Values

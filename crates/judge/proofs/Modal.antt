@@ -4,7 +4,6 @@ use Prim.Native.Nat.{ℕ, suc, _+_, _-_, _*_, _^_, _≤_, _<_}
 use mathlib.Core.Bool.{Bool, false, not}
 use mathlib.Core.List.{List}
 use mathlib.Core.Path.{_≡_, refl, sym, ap, ap₂, _∙_, subst}
-use native.Mathlib.Nat.{zero-div}
 use native.Mathlib.Nat.{add-comm}
 use native.Mathlib.Numerals.{add-one}
 use native.Mathlib.Omega.{arith}
@@ -16,22 +15,17 @@ use Rattle.flc.specs.Sets.{both, either, implies, forAll, forSome, has, setOf}
 use Rattle.flc.specs.Functions.{Fun}
 use Rattle.flc.specs.Formula.{Table, dia, box, meanAtom}
 use Rattle.flc.proofs.Tests.{bool-ext, both-left, both-right, both-mk, either-left, either-right, either-use, implies-use, implies-mk, forAll-use, forAll-mk, forSome-use, forSome-mk}
-use Rattle.flc.proofs.Masks.{has-setOf, setOf-lt, set-ext, has-and, or-setOf, setOf-ext}
-use Rattle.judge.specs.Tables.{Filled, from}
+use Rattle.flc.proofs.Masks.{has-setOf, setOf-lt, set-ext, has-and, or-setOf, setOf-ext, has-empty, has-beyond}
+use Rattle.case_model.specs.Areas.{Filled, from}
 use Rattle.judge.specs.Plans.{Plan, Sized, Drawn}
-use Rattle.judge.proofs.Digits.{has-add, has-rest, has-high, has-gap}
-use Rattle.judge.proofs.Filling.{filled-ext, filled-up, filled-down, filled-one}
-
--- the empty set
-pub has-none : (s : ℕ) → has 0 s ≡ false
-unfolding has
-has-none s = rw (zero-div (2 ^ s))
+use Rattle.judge.proofs.Digits.{has-add, has-rest, has-gap}
+use Rattle.case_model.proofs.Filling.{filled-ext, filled-up, filled-down, filled-one}
 
 -- the set of all
 pub has-all : (n s : ℕ) → s < n → T (has (2 ^ n - 1) s)
 has-all n s h =
     let e : 2 ^ n - 1 - 0 ≡ 2 ^ n - 1 = omega arith in
-    subst T (sym (ap (λ x. has x s) (sym e) ∙ has-rest n 0 s (pow-pos n) h ∙ ap not (has-none s))) tt
+    subst T (sym (ap (λ x. has x s) (sym e) ∙ has-rest n 0 s (pow-pos n) h ∙ ap not (has-empty s))) tt
 
 -- ---- one state more in x, under a test q
 module _ (n s x : ℕ) (l : s < n) (out : has x s ≡ false) (q : ℕ → Bool) where
@@ -62,7 +56,7 @@ module _ (L : Table) (a : ℕ) where
   pub dia-none : meanAtom L (dia a) 0 ≡ 0
   unfolding meanAtom
   dia-none = set-ext (L .n) _ 0 (setOf-lt (L .n) _) (pow-pos (L .n)) (λ r k.
-      has-setOf (L .n) _ r k ∙ bool-ext _ _ (λ h. let (t, l, i) = forSome-use (L .n) _ h in absurd (subst T (has-none t) (both-right _ _ i))) (λ h. absurd (subst T (has-none r) h)))
+      has-setOf (L .n) _ r k ∙ bool-ext _ _ (λ h. let (t, l, i) = forSome-use (L .n) _ h in absurd (subst T (has-empty t) (both-right _ _ i))) (λ h. absurd (subst T (has-empty r) h)))
 
   pub box-all : meanAtom L (box a) (2 ^ L .n - 1) ≡ 2 ^ L .n - 1
   unfolding meanAtom
@@ -114,7 +108,7 @@ module _ {p : Plan} (z : Sized p) (a : ℕ) (low : a < 8) where
         let F : Filled w v base h (meanAtom L (dia a)) = D .filled L R in
         subst (λ k. Filled w u base k (meanAtom L (dia a))) E (filled-up F S (λ y k.
         ap (meanAtom L (dia a)) (add-comm h y ∙ ap (λ h. y + h) (D .power))
-        ∙ dia-more L a s y q (omega (arith, R .states)) (has-high s y (omega (arith, D .power))) (e ∙ R .sources a s low (omega (arith, z .few)))
+        ∙ dia-more L a s y q (omega (arith, R .states)) (has-beyond s y s (omega (arith, D .power)) (omega arith)) (e ∙ R .sources a s low (omega (arith, z .few)))
         ∙ ap (λ m. bitOr m q) (sym (F .inside y k))));
   }
 

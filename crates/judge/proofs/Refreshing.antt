@@ -1,7 +1,7 @@
 -- Refreshing the nodes below k: the nodes below the last one, then that one, or not.
 -- A node outside what is active need not be right; one that depends only on the old is right already.
 -- Until its turn comes a node keeps its old block, so that of what has grown each node is told.
-use Prim.Native.Nat.{ℕ, zero, suc, _-_, _*_, _<_}
+use Prim.Native.Nat.{ℕ, zero, suc, _-_, _<_}
 use mathlib.Core.Bool.{Bool}
 use mathlib.Core.List.{List}
 use mathlib.Core.Path.{_≡_, refl, sym, ap, _∙_, subst}
@@ -12,12 +12,11 @@ use lib.Dec.{T, eqb-refl}
 use lib.ListN.{length}
 use Rattle.flc.specs.Formula.{Env, var, free}
 use Rattle.flc.specs.Nodes.{Node, leaf, two, bind, tree, formulaAt}
-use Rattle.flc.proofs.Meanings.{GoodEnv}
+use Rattle.flc.specs.Order.{GoodEnv}
 use Rattle.flc.proofs.Unfolding.{formulaAt-node}
 use Rattle.case_model.specs.Case.{Case, table, nodeAt}
 use Rattle.case_model.proofs.Nodes.{node-lower}
-use Rattle.judge.specs.Tables.{Filled}
-use Rattle.judge.specs.Plans.{Plan, Within, scope, home, block, value, Ready, RightAt, Right, Older, Refreshed, Computable, Computed, Fillable, roundsIn}
+use Rattle.judge.specs.Plans.{Plan, Within, scope, NodeFilled, Ready, RightAt, Right, Older, Refreshed, Computable, Computed, Fillable, roundsIn}
 use Rattle.judge.proofs.Rightness.{or-within, within-or, kept-block, kept-up, kept-trans, filled-kept, matches-kept, right-more, value-small, value-right}
 
 pub not-zero : (k : ℕ) → (k ≡ 0 → ⊥) → k ≡ suc (k - 1)
@@ -112,10 +111,10 @@ module _ {c : Case} {p : Plan} {w : List ℕ} {j act : ℕ} (C : Computable c p 
     where
       free-var : (v : ℕ) → nodeAt c j ≡ leaf (var v) → T (free v (formulaAt (nodeAt c) j))
       free-var v e =
-          subst (λ φ. T (free v φ)) (sym (formulaAt-node (nodeAt c) j (node-lower (C .ready .planned .valid) j (C .ready .below)) ∙ ap (λ m. tree m (formulaAt (nodeAt c))) e)) (unfold free in eqb-refl v)
+          subst (λ φ. T (free v φ)) (sym (formulaAt-node (nodeAt c) j (node-lower (C .ready .planned .valid .rule) j (C .ready .below)) ∙ ap (λ m. tree m (formulaAt (nodeAt c))) e)) (unfold free in eqb-refl v)
 
   pub computed-plain : {v : List ℕ} → ((d : Bool) (v b : ℕ) → nodeAt c j ≡ bind d v b → ⊥)
-      → Filled w v (j * p .size) (p .size) (value (table c) (nodeAt c j) (block p w) (λ v. block p w (home p v))) → (grown : ℕ) → Computed c p w v j act grown 0
+      → NodeFilled c p w v j → (grown : ℕ) → Computed c p w v j act grown 0
   computed-plain {v} h S grown = record {
     kept = filled-kept p S (C .ready .small) (value-small (C .ready .planned) w (C .ready .small) j (C .ready .below));
     right = λ ρ G M R H. (

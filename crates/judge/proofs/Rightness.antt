@@ -16,12 +16,12 @@ use Rattle.flc.specs.Formula.{or, and, chop, atom, Env, mean, none, free}
 use Rattle.flc.specs.Nodes.{Node, bind, tree, formulaAt}
 use Rattle.flc.proofs.Tests.{bool-ext, either-left, either-right, either-use}
 use Rattle.flc.proofs.Masks.{set-ext, has-or}
-use Rattle.flc.proofs.Order.{Agree}
-use Rattle.flc.proofs.Meanings.{GoodEnv, none-good, mean-small, mean-or, mean-and}
+use Rattle.flc.specs.Order.{Agree, GoodEnv}
+use Rattle.flc.proofs.Meanings.{none-good, mean-small, mean-or, mean-and}
 use Rattle.flc.proofs.Unfolding.{formulaAt-node}
 use Rattle.case_model.specs.Case.{Case, table, nodeAt}
 use Rattle.case_model.proofs.Nodes.{Fits, fits-constant, fits-variable, fits-pair, fits-binder, node-fits, node-lower}
-use Rattle.judge.specs.Tables.{Filled}
+use Rattle.case_model.specs.Areas.{Filled}
 use Rattle.judge.specs.Plans.{Plan, Planned, Within, scope, home, block, value, Small, Matches, Right, Kept}
 use Rattle.judge.proofs.Values.{apart}
 
@@ -87,7 +87,7 @@ module _ {c : Case} {p : Plan} (P : Planned c p) where
   pub value-small : (w : List ℕ) → Small p w → (j : ℕ) → j < length (c .nodes) → (x : ℕ) → x < p .size
       → value (table c) (nodeAt c j) (block p w) (λ v. block p w (home p v)) x < p .size
   unfolding mean
-  value-small w s j there x k = go (nodeAt c j) (node-fits (P .valid) j there)
+  value-small w s j there x k = go (nodeAt c j) (node-fits (P .valid .rule) j there)
     where
       go : (m : Node) → Fits j m → value (table c) m (block p w) (λ v. block p w (home p v)) x < p .size
       go _ (fits-constant y) = rw size-is (mean-small (table c) (atom y) none (none-good (table c .n)) x (rw size-is at k))
@@ -114,7 +114,7 @@ module _ {c : Case} {p : Plan} (P : Planned c p) where
         → Agree (table c .n) (value (table c) (nodeAt c j) (block p w) (λ v. block p w (home p v))) (mean (table c) (formulaAt (nodeAt c) j) ρ)
     unfolding mean
     value-right w j there plain u M R x k =
-        go (nodeAt c j) (node-fits (P .valid) j there) refl ∙ ap (λ φ. mean (table c) φ ρ x) (sym (formulaAt-node (nodeAt c) j (node-lower (P .valid) j there)))
+        go (nodeAt c j) (node-fits (P .valid .rule) j there) refl ∙ ap (λ φ. mean (table c) φ ρ x) (sym (formulaAt-node (nodeAt c) j (node-lower (P .valid .rule) j there)))
       where
         named : (a : ℕ) → a < j → Within (scope p a) (scope p j) → Agree (table c .n) (block p w a) (mean (table c) (formulaAt (nodeAt c) a) ρ)
         named a l s = R a l (λ z g t. u z g (s z g t))
@@ -123,7 +123,7 @@ module _ {c : Case} {p : Plan} (P : Planned c p) where
             → value (table c) m (block p w) (λ v. block p w (home p v)) x ≡ mean (table c) (tree m (formulaAt (nodeAt c))) ρ x
         go _ (fits-constant y) e = refl
         go _ (fits-variable v l) e =
-            let t : T (free v (formulaAt (nodeAt c) j)) = subst (λ φ. T (free v φ)) (sym (formulaAt-node (nodeAt c) j (node-lower (P .valid) j there) ∙ ap (λ m. tree m (formulaAt (nodeAt c))) e)) (unfold free in eqb-refl v) in
+            let t : T (free v (formulaAt (nodeAt c) j)) = subst (λ φ. T (free v φ)) (sym (formulaAt-node (nodeAt c) j (node-lower (P .valid .rule) j there) ∙ ap (λ m. tree m (formulaAt (nodeAt c))) e)) (unfold free in eqb-refl v) in
             let (h, s) = P .scoped .frees j v there t in
             M v h (u v (omega arith) s) x k
         go _ (fits-pair or a b h l) e =

@@ -5,11 +5,11 @@ use Prim.Native.Nat.{ℕ, suc, _+_, _-_, _*_, _^_, _≤_, _<_}
 use mathlib.Core.Bool.{Bool, true, false, not, cond}
 use mathlib.Core.List.{List}
 use mathlib.Core.Path.{_≡_, refl, sym, ap, ap₂, _∙_, subst}
-use native.Mathlib.Decide.{decLt, ℕ-discrete}
+use native.Mathlib.Decide.{ℕ-discrete}
 use native.Mathlib.Nat.{not-suc-le-zero}
 use native.Mathlib.Numerals.{add-one}
 use native.Mathlib.Omega.{arith}
-use borrow.Author.Tests.{eq-eqb, ne-eqb, le-leb, lt-leb}
+use borrow.Author.Tests.{eq-eqb, ne-eqb}
 use lib.Bits.{bitOr}
 use lib.Dec.{eqb}
 use lib.ListN.{length}
@@ -17,72 +17,55 @@ use Rattle.flc.specs.Sets.{setOf}
 use Rattle.flc.specs.Functions.{Fun, approximant}
 use Rattle.flc.specs.Formula.{fix, Env, mean}
 use Rattle.flc.specs.Nodes.{Node, bind, formulaAt}
-use Rattle.flc.proofs.Order.{Agree}
+use Rattle.flc.specs.Order.{Agree, GoodEnv}
+use Rattle.flc.proofs.Masks.{setOf-none}
 use Rattle.flc.proofs.FixedPoints.{iterate, Rising, approx-rising}
 use Rattle.flc.proofs.Rounds.{settled}
-use Rattle.flc.proofs.Meanings.{GoodEnv, mean-steady, mean-rising}
+use Rattle.flc.proofs.Meanings.{mean-steady, mean-rising}
+use denote.Enum.Declared.{tagOf}
 use Rattle.case_reader.specs.declared.parts.Triple as code
+use Rattle.case_reader.specs.declared.kinds.Kind.{Kind}
+use Rattle.case_reader.specs.declared.kinds.Kind.the-variants as kind
+use Rattle.case_reader.proofs.kinds.Kind.{the-type}
+use Rattle.case_reader.specs.NodeKinds.{lineOf}
 use Rattle.case_reader.specs.Read.{IsTriple}
-use Rattle.case_model.specs.Case.{Triple, Case, at, table, kinds, nodeOf, nodeAt}
-use Rattle.case_model.specs.Rows.{nodeHolds}
-use Rattle.case_model.proofs.NodeKinds.{Kind, constant, variable, pair, binder, beyond, kind}
-use Rattle.case_model.proofs.Nodes.{high-holds}
-use Rattle.case_model.proofs.Valid.{Valid}
-use Rattle.judge.specs.Tables.{Filled, Advanced}
-use Rattle.judge.specs.Plans.{Plan, block, Matches, RightAt, Right, Kept, Older, Grown, Refreshed, Computable, Computed, roundsIn}
-use Rattle.judge.proofs.Values.{apart, size-some, set-all, set-none}
+use Rattle.case_model.specs.Limits.{variables}
+use Rattle.case_model.specs.Case.{Case, at, table, nodeAt}
+use Rattle.case_model.specs.Kinds.{kindAt}
+use Rattle.judge.specs.Tables.{Advanced}
+use Rattle.case_model.specs.Areas.{Filled}
+use Rattle.judge.specs.Plans.{Plan, block, Matches, RightAt, Right, Kept, Older, Grown, Refreshed, Computable, Computed, roundsIn, anew, up, direction, begins}
+use Rattle.judge.proofs.Values.{apart, size-some, set-all, known}
 use Rattle.judge.proofs.Rightness.{size-is, kept-trans, filled-kept, filled-lower, matches-kept}
 use Rattle.judge.proofs.Approximating.{body, Turns, Turning, binds-low, binder-mean, round-right, round-now, round-stood, round-moved, round-older, stands}
 
--- ---- the node of a triple, by its kind
-module _ (c : Case) (j : ℕ) {t : code.Triple} (r : IsTriple t (at (c .nodes) j)) where
-  same : nodeAt c j ≡ nodeOf (t .0, t .1, t .2)
-  unfolding nodeAt
-  same = ap nodeOf (sym (r .is))
+-- the tag of a binder, and a node whose kind is no binder
+pub binder-tag : {k : Kind} {d : Bool} → k ≡ kind.Binder d → tagOf the-type k ≡ tagOf the-type (kind.Binder true)
+binder-tag q = ap (tagOf the-type) q
 
-  pub plain-kind : t .0 < 11 → (d : Bool) (v b : ℕ) → nodeAt c j ≡ bind d v b → ⊥
-  plain-kind l d v b e = go (nodeOf (t .0, t .1, t .2)) (kind (t .0, t .1, t .2)) (sym same ∙ e)
-    where
-      go : (n : Node) → Kind (t .0) (t .1) (t .2) n → n ≡ bind d v b → ⊥
-      go _ (constant y h n) e = let z : _≡_ {A = ℕ} 0 1 = cc in omega arith
-      go _ (variable q) e = let z : _≡_ {A = ℕ} 0 1 = cc in omega arith
-      go _ (pair o l h) e = let z : _≡_ {A = ℕ} 0 1 = cc in omega arith
-      go _ (binder d g h) e = omega arith
-      go _ (beyond g) e = let z : _≡_ {A = ℕ} 0 1 = cc in omega arith
-
-  pub binder-kind : Valid c → j < length (c .nodes) → 11 ≤ t .0 → nodeAt c j ≡ bind (eqb (t .0) 11) (t .1) (t .2)
-  unfolding nodeOf kinds
-  binder-kind valid h l = elim (ℕ-discrete (t .0) 11) [
-    | yes e ↦ same ∙ ap (λ k. nodeOf (k, t .1, t .2)) e ∙ ap (λ d. bind d (t .1) (t .2)) (sym (eq-eqb (t .0) 11 e))
-    | no e ↦
-        let q : t .0 ≡ 12 = twelve e in
-        same ∙ ap (λ k. nodeOf (k, t .1, t .2)) q ∙ ap (λ d. bind d (t .1) (t .2)) (sym (ne-eqb (t .0) 11 e))
-  ]
-    where
-      twelve : (t .0 ≡ 11 → ⊥) → t .0 ≡ 12
-      twelve e = elim (decLt 12 (t .0)) [
-        | yes g ↦
-            let r : false ≡ true = rw (high-holds j (t .0, t .1, t .2) (omega arith), lt-leb (t .0) 10 (omega arith), le-leb 11 (t .0) l, lt-leb (t .0) 12 (omega arith)) at (subst (λ x. nodeHolds j x ≡ true) (sym (r .is)) (valid .kinds j h)) in
-            absurd (let z : _≡_ {A = ℕ} 0 1 = cc in omega arith)
-        | no g ↦ omega (arith, twelve-low e)
-      ]
-        where
-          twelve-low : (t .0 ≡ 11 → ⊥) → 12 ≤ t .0
-          twelve-low e = elim (decLt 11 (t .0)) [ yes g ↦ g | no g ↦ absurd (e (omega arith)) ]
+pub other-kind : (c : Case) (j : ℕ) {t : code.Triple} → IsTriple t (at (c .nodes) j) → (k : Kind) → lineOf k ≡ kindAt (t .0)
+    → ((d : Bool) → k ≡ kind.Binder d → ⊥) → (d : Bool) (v b : ℕ) → nodeAt c j ≡ bind d v b → ⊥
+other-kind c j {t} r k e n d v b q = go k (sym (known c j r {k = k} {k′ = k} e refl) ∙ q) n
+  where
+    go : (k : Kind) → lineOf k .node (t .1) (t .2) ≡ bind d v b → ((d : Bool) → k ≡ kind.Binder d → ⊥) → ⊥
+    go (kind.Atom x) z n = let w : _≡_ {A = ℕ} 0 1 = cc in omega arith
+    go kind.Variable z n = let w : _≡_ {A = ℕ} 0 1 = cc in omega arith
+    go (kind.Two o) z n = let w : _≡_ {A = ℕ} 0 1 = cc in omega arith
+    go (kind.Binder d) z n = n d refl
 
 -- what the code knows of a binder
-pub record Bound (c : Case) (p : Plan) (w : List ℕ) (j : ℕ) (t : code.Triple) : Type 0 where
-  pub is : nodeAt c j ≡ bind (eqb (t .0) 11) (t .1) (t .2)
-  pub variable : t .1 < 16
+pub record Bound (c : Case) (p : Plan) (w : List ℕ) (j : ℕ) (t : code.Triple) (d : Bool) : Type 0 where
+  pub is : nodeAt c j ≡ bind d (t .1) (t .2)
+  pub variable : t .1 < variables
   pub some : 0 < p .size
   pub most : p .size ≤ 65536
   pub under : t .2 * p .size + p .size ≤ j * p .size
   pub here : j * p .size + p .size ≤ length w
 
-pub bound : {c : Case} {p : Plan} {w : List ℕ} {j act : ℕ} {t : code.Triple} → Computable c p w j act → IsTriple t (at (c .nodes) j) → 11 ≤ t .0 → Bound c p w j t
-bound {c} {p} {w} {j} {act} {t} C r l =
-    let e = binder-kind c j r (C .ready .planned .valid) (C .ready .below) l in
-    let (v, b) = binds-low C (eqb (t .0) 11) (t .1) (t .2) e in
+pub bound : {c : Case} {p : Plan} {w : List ℕ} {j act : ℕ} {t : code.Triple} {d : Bool} → Computable c p w j act
+    → nodeAt c j ≡ bind d (t .1) (t .2) → Bound c p w j t d
+bound {c} {p} {w} {j} {act} {t} {d} C e =
+    let (v, b) = binds-low C d (t .1) (t .2) e in
     let (s, m) = size-some (C .ready .planned .sized) in
     record {
       is = e;
@@ -93,6 +76,22 @@ bound {c} {p} {w} {j} {act} {t} C r l =
       here = omega (arith, apart (p .size) j (length (c .nodes)) (C .ready .below), C .ready .room);
     }
 
+-- the two directions
+direction-known : (d : Bool) → anew < direction d
+direction-known true = omega arith
+direction-known false = omega arith
+
+direction-up : (d : Bool) → eqb (direction d) up ≡ d
+direction-up true = refl
+direction-up false = refl
+
+-- where a binder's table begins, by the test of its direction
+pub begins-old : (d : Bool) (grown : ℕ) → direction d ≡ grown → (size : ℕ) (old : Fun) (x : ℕ) → begins d grown size old x ≡ old x
+begins-old d grown e size old x = rw (eq-eqb (direction d) grown e)
+
+pub begins-anew : (d : Bool) (grown : ℕ) → (direction d ≡ grown → ⊥) → (size : ℕ) (old : Fun) (x : ℕ) → begins d grown size old x ≡ cond d 0 (size - 1)
+begins-anew d grown n size old x = rw (ne-eqb (direction d) grown n)
+
 -- ---- the loop
 -- a binder is one node only
 only : {m : Node} (Q : Bool → ℕ → ℕ → Type 0) {d : Bool} {v b : ℕ} → m ≡ bind d v b → Q d v b → (d′ : Bool) (v′ b′ : ℕ) → m ≡ bind d′ v′ b′ → Q d′ v′ b′
@@ -102,14 +101,10 @@ only {m} Q {d} {v} {b} e h d′ v′ b′ q =
     let k : b ≡ b′ = cc in
     subst (λ d. Q d v′ b′) f (subst (λ v. Q d v b′) g (subst (λ b. Q d v b) k h))
 
--- what binder j's block begins with
-abbrev pub begins : Plan → List ℕ → ℕ → ℕ → ℕ → Fun
-begins p w j kind grown x = cond (eqb kind grown) (block p w j x) (cond (eqb kind 11) 0 (p .size - 1))
-
-module _ {c : Case} {p : Plan} {w w₀ : List ℕ} {j act : ℕ} (kind grown : ℕ) (C : Computable c p w j act)
-    (F : Filled w w₀ (j * p .size) (p .size) (begins p w j kind grown)) where
+module _ {c : Case} {p : Plan} {w w₀ : List ℕ} {j act : ℕ} (d : Bool) (grown : ℕ) (C : Computable c p w j act)
+    (F : Filled w w₀ (j * p .size) (p .size) (begins d grown (p .size) (block p w j))) where
   begun : Kept p w w₀ (suc j)
-  begun = filled-kept p F (C .ready .small) (λ x h. low x (eqb kind grown) (eqb kind 11))
+  begun = filled-kept p F (C .ready .small) (λ x h. low x (eqb (direction d) grown) d)
     where
       low : (x : ℕ) (old d : Bool) → cond old (block p w j x) (cond d 0 (p .size - 1)) < p .size
       low x true d = C .ready .small _
@@ -130,7 +125,7 @@ module _ {c : Case} {p : Plan} {w w₀ : List ℕ} {j act : ℕ} (kind grown : �
     within = C .within;
   }
 
-  pub turning-start : Turning c p w₀ w₀ j act 0 0
+  pub turning-start : Turning c p w₀ w₀ j act 0 anew
   unfolding iterate
   turning-start = record {
     kept = record { long = refl; small = begun .small; above = λ q h. refl };
@@ -142,34 +137,32 @@ module _ {c : Case} {p : Plan} {w w₀ : List ℕ} {j act : ℕ} (kind grown : �
     };
   }
 
-  module _ (v b : ℕ) (e : nodeAt c j ≡ bind (eqb kind 11) v b) (high : 11 ≤ kind) where
-    abbrev d : Bool
-    d = eqb kind 11
-
+  module _ (v b : ℕ) (e : nodeAt c j ≡ bind d v b) where
     -- the iterates rise from the old block, which is the meaning in an environment below, and from approximant 0
     rising : (ρ : Env) → GoodEnv (table c .n) ρ → Grown (table c .n) grown ρ (λ σ. RightAt c p σ w j)
         → (f : Fun) × Agree (table c .n) (block p w₀ j) f × Rising d (table c .n) (body c ρ v b) f
-        × (grown ≡ 0 → f ≡ approximant d (table c .n) (body c ρ v b) 0)
+        × (grown ≡ anew → f ≡ approximant d (table c .n) (body c ρ v b) 0)
     unfolding approximant
-    rising ρ G H = elim (ℕ-discrete kind grown) [
+    rising ρ G H = elim (ℕ-discrete (direction d) grown) [
       | yes q ↦
-          let O = subst (λ k. Older (table c .n) (eqb k 11) ρ (λ σ. RightAt c p σ w j)) (sym q) (H (omega arith)) in (
+          let known = direction-known d in
+          let O = subst (λ d. Older (table c .n) d ρ (λ σ. RightAt c p σ w j)) (ap (λ g. eqb g up) (sym q) ∙ direction-up d) (H (omega arith)) in (
             mean (table c) (fix d v (formulaAt (nodeAt c) b)) (O .env),
-            (λ x k. F .inside x (rw (size-is (C .ready .planned)) k) ∙ ap (λ t. cond t (block p w j x) (cond d 0 (p .size - 1))) (eq-eqb kind grown q) ∙ O .held x k
+            (λ x k. F .inside x (rw (size-is (C .ready .planned)) k) ∙ begins-old d grown q (p .size) (block p w j) x ∙ O .held x k
                 ∙ ap (λ f. f x) (binder-mean C d v b e (O .env))),
             mean-rising d (table c) v (formulaAt (nodeAt c) b) (O .env) ρ (O .good) G (O .below),
             λ z. absurd (omega arith),
           )
       | no q ↦ (
         approximant d (table c .n) (body c ρ v b) 0,
-        (λ x k. F .inside x (rw (size-is (C .ready .planned)) k) ∙ ap (λ t. cond t (block p w j x) (cond d 0 (p .size - 1))) (ne-eqb kind grown q) ∙ first d),
+        (λ x k. F .inside x (rw (size-is (C .ready .planned)) k) ∙ begins-anew d grown q (p .size) (block p w j) x ∙ first d),
         approx-rising d,
         λ z. refl,
       )
     ]
       where
         first : (d : Bool) → cond d 0 (p .size - 1) ≡ setOf (table c .n) (λ s. not d)
-        first true = sym (set-none (table c .n))
+        first true = sym (setOf-none (table c .n))
         first false = ap (λ k. k - 1) (size-is (C .ready .planned)) ∙ sym (set-all (table c .n))
 
     -- from the loop back to the call
@@ -192,10 +185,10 @@ module _ {c : Case} {p : Plan} {w w₀ : List ℕ} {j act : ℕ} (kind grown : �
       round-kept : Kept p w₀ z (suc j)
       round-kept = kept-trans (T₁ .kept) (kept-trans (R .kept) (filled-kept p (D .filled) (R .kept .small) (λ q h. R .kept .small _)) (omega arith)) (omega arith)
 
-      pub turning-again : (change ≡ 0 → ⊥) → Turning c p w₀ z j act (r + 1) kind
+      pub turning-again : (change ≡ 0 → ⊥) → Turning c p w₀ z j act (r + 1) (direction d)
       turning-again n = record {
         kept = round-kept;
-        turned = only (Turns c p w₀ z j act (r + 1) kind) e (rw add-one (λ ρ G M S f a Z.
+        turned = only (Turns c p w₀ z j act (r + 1) (direction d)) e (rw add-one (λ ρ G M S f a Z.
             let U = T₁ .turned d v b e ρ G M S f a Z in
             record {
               right = round-right restart d v b e (T₁ .kept) R D ρ G M Z U;
@@ -204,7 +197,7 @@ module _ {c : Case} {p : Plan} {w w₀ : List ℕ} {j act : ℕ} (kind grown : �
                 | yes g ↦ rw g (round-moved restart d v b e (T₁ .kept) R D ρ G M Z U n)
                 | no g ↦ U .moved i (omega arith)
               ];
-              older = λ l. round-older restart d v b e (T₁ .kept) R D ρ G M Z U;
+              older = λ l. rw (direction-up d) (round-older restart d v b e (T₁ .kept) R D ρ G M Z U);
             }));
       }
 

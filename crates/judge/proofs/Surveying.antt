@@ -1,38 +1,29 @@
--- What a plan is made of, one state, one step or one node more: labels, sources and binders.
--- A label's bits join a set from the highest state down; a step joins the sources of its action and end; a binder is noted at its variable.
-use Prim.Native.Nat.{ℕ, zero, suc, _+_, _-_, _*_, _/_, _%_, _^_, _≤_, _<_}
-use mathlib.Core.Bool.{Bool, cond}
-use mathlib.Core.List.{List, _∷_}
+-- What a plan is made of, one state, one column or one node more: labels, sources and binders.
+-- Bits join a set from the highest state down; a column of the step rows is such a set; a binder is noted at its variable.
+use Prim.Native.Nat.{ℕ, suc, _+_, _-_, _*_, _/_, _%_, _^_, _≤_, _<_}
+use mathlib.Core.Bool.{Bool, true, false, cond}
+use mathlib.Core.List.{List}
 use mathlib.Core.Path.{_≡_, refl, sym, ap, ap₂, _∙_, subst}
 use native.Mathlib.Decide.{decLt, ℕ-discrete}
 use native.Mathlib.Nat.{not-suc-le-zero}
 use native.Mathlib.Omega.{arith}
-use borrow.Author.Tests.{eq-eqb, ne-eqb, le-leb, lt-leb}
-use lib.Bits.{bitOr, or-lt}
-use lib.Dec.{T, eqb, leb, eqb→eq}
-use lib.ListN.{length, getD, set, drop, replicate, length-set, length-replicate}
-use lib.Pow.{pow-lt, pow-mono, pow-pos}
-use lib.Seq.{getD-set-same, getD-set-other, drop-cons, drop-length}
-use Rattle.flc.specs.Sets.{both, either, has, bit, setOf}
+use borrow.Author.Tests.{ne-eqb}
+use lib.ListN.{length, getD, set, replicate, length-set, length-replicate}
+use lib.Pow.{pow-mono}
+use lib.Seq.{getD-set-same, getD-set-other}
+use Rattle.flc.specs.Sets.{has, bit, setOf}
 use Rattle.flc.specs.Nodes.{bind}
-use Rattle.flc.proofs.Tests.{bool-ext, both-left, both-right, both-mk, either-left, either-right, either-use}
-use Rattle.flc.proofs.Masks.{setOf-ext, setOf-lt, has-or}
+use Rattle.flc.proofs.Masks.{setOf-ext, setOf-lt}
 use Rattle.case_reader.specs.declared.parts.Triple as code
 use Rattle.case_reader.specs.Read.{IsTriple, triple}
-use Rattle.case_model.specs.Case.{Triple, Case, at, listed, nodeAt}
-use Rattle.case_model.proofs.Valid.{Valid}
+use Rattle.case_reader.specs.StepRows.{relation}
+use Rattle.case_model.specs.Case.{Case, at, nodeAt}
+use Rattle.case_model.specs.Kinds.{nodeOf, isBinder}
+use Rattle.case_model.specs.Valid.{ValidRule}
+use Rattle.case_model.proofs.KindLines.{binder-node}
 use Rattle.case_model.proofs.Nodes.{one-binder}
-use Rattle.case_model.proofs.Steps.{InRange, step-in}
 use Rattle.judge.specs.Plans.{Labelled, Sourced, Housed}
-use Rattle.judge.proofs.Modal.{has-none}
-use Rattle.judge.proofs.Approximating.{has-one}
-use Rattle.judge.proofs.Settling.{plain-kind, binder-kind}
-use Rattle.judge.proofs.Reached.{body-low}
-
-pub zeros : (n i : ℕ) → _≡_ {A = ℕ} (getD (replicate n 0) i 0) 0
-zeros zero i = refl
-zeros (suc n) zero = refl
-zeros (suc n) (suc i) = zeros n i
+use Rattle.judge.proofs.Values.{binder-fits}
 
 -- ---- labels: the states from s on
 bit-has : (l i : ℕ) → bit (has l i) ≡ l / 2 ^ i % 2
@@ -84,105 +75,71 @@ labelled-more {c} {n} {i} {t} y L h e = record {
   ];
 }
 
--- ---- steps, from the last back
-equal : {a b : ℕ} → a ≡ b → T (eqb a b)
-equal {a} {b} e = rw (eq-eqb a b e) tt
+-- ---- sources
+pub relation-bit : (rows : List ℕ) (s a t : ℕ) {b : ℕ} → b ≡ getD rows (8 * s + a) 0 / 2 ^ t % 2 → b ≡ bit (relation rows s a t)
+unfolding relation
+relation-bit rows s a t q = q ∙ sym (bit-has (getD rows (8 * s + a) 0) t)
 
-pub sourced-none : (n : ℕ) (l : List Triple) → Sourced n (drop (length l) l) (replicate 128 0)
-unfolding listed
-sourced-none n l = rw (drop-length l) (record {
-  long = length-replicate {A = ℕ} 128 0;
-  small = λ k. rw (zeros 128 k) (pow-pos n);
-  is = λ a e s h g. ap (λ x. has x s) (zeros 128 (16 * a + e)) ∙ has-none s;
-})
+pub sourced-none : (rows : List ℕ) (n : ℕ) → Sourced rows n 0 (replicate 128 0)
+sourced-none rows n = record { long = length-replicate {A = ℕ} 128 0; is = λ a t h l k. absurd (not-suc-le-zero k) }
 
-module _ {n : ℕ} {l : List Triple} {t : List ℕ} (S : Sourced n l t) (s a e : ℕ) (i : s < n) (j : a < 8) (k : e < 16) where
-  abbrev more : List ℕ
-  more = set t (16 * a + e) (bitOr (getD t (16 * a + e) 0) (2 ^ s))
-
-  joined : (s′ a′ e′ : ℕ) → a′ < 8 → e′ < 16 → has (getD more (16 * a′ + e′) 0) s′ ≡ listed ((s, a, e) ∷ l) s′ a′ e′
-  unfolding listed
-  joined s′ a′ e′ h g = elim (ℕ-discrete (16 * a′ + e′) (16 * a + e)) [
+pub sourced-more : {rows r : List ℕ} {n k : ℕ} (y : ℕ) → Sourced rows n k r → k < 128
+    → y ≡ setOf n (λ s. relation rows s (k / 16) (k % 16)) → Sourced rows n (k + 1) (set r k y)
+sourced-more {rows} {r} {n} {k} y S h e = record {
+  long = length-set r k y ∙ S .long;
+  is = λ a t i j l. elim (ℕ-discrete (16 * a + t) k) [
     | yes q ↦
-        let x : a ≡ a′ = omega arith in
-        let y : e ≡ e′ = omega arith in
-        ap (λ z. has z s′) (ap (λ m. getD more m 0) q ∙ getD-set-same t (16 * a + e) (bitOr (getD t (16 * a + e) 0) (2 ^ s)) 0 (omega (arith, S .long)))
-        ∙ has-or (getD t (16 * a + e) 0) (2 ^ s) s′
-        ∙ ap₂ either (ap (λ m. has (getD t m 0) s′) (sym q) ∙ S .is a′ e′ s′ h g) (has-one s s′)
-        ∙ bool-ext _ _
-        (either-use _ _ (either-right _ _) (either-use _ _
-        (λ z. either-left _ _ (both-mk (eqb s s′) (both (eqb a a′) (eqb e e′)) (equal (sym (eqb→eq s′ s z))) (both-mk (eqb a a′) (eqb e e′) (equal x) (equal y))))
-        (λ z. absurd (subst T (has-none s′) z))))
-        (either-use _ _
-        (λ z. either-right _ _ (either-left (eqb s′ s) _ (equal (sym (eqb→eq s s′ (both-left _ _ z))))))
-        (either-left _ _))
-    | no q ↦
-        ap (λ z. has z s′) (getD-set-other t (16 * a + e) (16 * a′ + e′) (bitOr (getD t (16 * a + e) 0) (2 ^ s)) 0 q) ∙ S .is a′ e′ s′ h g
-        ∙ bool-ext _ _ (either-right _ _) (either-use _ _
-        (λ z.
-        let x = eqb→eq a a′ (both-left _ _ (both-right _ _ z)) in
-        let y = eqb→eq e e′ (both-right _ _ (both-right _ _ z)) in
-        absurd (q (omega arith)))
-        (λ z. z))
-  ]
-
-  pub sourced-more : Sourced n ((s, a, e) ∷ l) more
-  sourced-more = record {
-    long = length-set t (16 * a + e) _ ∙ S .long;
-    small = λ m. elim (ℕ-discrete m (16 * a + e)) [
-      | yes q ↦ rw q (rw (getD-set-same t (16 * a + e) (bitOr (getD t (16 * a + e) 0) (2 ^ s)) 0 (omega (arith, S .long))) (or-lt n _ _ (S .small (16 * a + e)) (pow-lt i)))
-      | no q ↦ rw (getD-set-other t (16 * a + e) m (bitOr (getD t (16 * a + e) 0) (2 ^ s)) 0 q) (S .small m)
-    ];
-    is = λ a′ e′ s′ h g. joined s′ a′ e′ h g;
-  }
-
--- the step before
-pub sourced-next : {c : Case} {t : List ℕ} {i p : ℕ} {x : code.Triple} → Valid c → 0 < i → i ≤ length (c .steps) → Sourced (length (c .labels)) (drop i (c .steps)) t
-    → IsTriple x (at (c .steps) (i - 1)) → p ≡ 2 ^ x .0
-    → Sourced (length (c .labels)) (drop (i - 1) (c .steps)) (set t (16 * x .1 + x .2) (bitOr (getD t (16 * x .1 + x .2) 0) p))
-sourced-next {c} {t} {i} {p} {x} valid h l S r e =
-    let R = subst (InRange (length (c .labels))) (sym (r .is)) (step-in valid (i - 1) (omega arith)) in
-    let q : suc (i - 1) ≡ i = omega arith in
-    let d : drop (i - 1) (c .steps) ≡ triple x ∷ drop i (c .steps) =
-    drop-cons (c .steps) (i - 1) (0, 0, 0) (omega arith) ∙ ap₂ _∷_ (sym (r .is)) (ap (λ k. drop k (c .steps)) q) in
-    subst (λ l. Sourced (length (c .labels)) l (set t (16 * x .1 + x .2) (bitOr (getD t (16 * x .1 + x .2) 0) p))) (sym d)
-    (subst (λ p. Sourced (length (c .labels)) (triple x ∷ drop i (c .steps)) (set t (16 * x .1 + x .2) (bitOr (getD t (16 * x .1 + x .2) 0) p))) (sym e)
-    (sourced-more S (x .0) (x .1) (x .2) (R .from) (R .action) (omega (arith, R .to, valid .few))))
+        let x : k / 16 ≡ a = omega arith in
+        let z : k % 16 ≡ t = omega arith in
+        ap (λ i. getD (set r k y) i 0) q ∙ getD-set-same r k y 0 (rw (S .long) h) ∙ e ∙ ap₂ (λ a t. setOf n (λ s. relation rows s a t)) x z
+    | no q ↦ getD-set-other r k (16 * a + t) y 0 q ∙ S .is a t i j (omega arith)
+  ];
+}
 
 -- ---- binders
 pub housed-none : (c : Case) → Housed c 0 (replicate 16 0)
 housed-none c = record { long = length-replicate {A = ℕ} 16 0; is = λ j h. absurd (not-suc-le-zero h) }
 
-module _ {c : Case} (valid : Valid c) {j : ℕ} {t : List ℕ} {x : code.Triple} (there : j < length (c .nodes)) (r : IsTriple x (at (c .nodes) j)) (H : Housed c j t) where
-  pub housed-same : x .0 < 11 → Housed c (suc j) t
-  housed-same l = record {
-    long = H .long;
-    is = λ i {d} {v} {b} h e. elim (ℕ-discrete i j) [
-      | yes q ↦ absurd (plain-kind c j r l d v b (subst (λ i. nodeAt c i ≡ bind d v b) q e))
-      | no q ↦ H .is i (omega arith) e
-    ];
-  }
+module _ {c : Case} (valid : ValidRule c) {j : ℕ} {x : code.Triple} (there : j < length (c .nodes)) (r : IsTriple x (at (c .nodes) j)) where
+  same : nodeAt c j ≡ nodeOf (triple x)
+  unfolding nodeAt
+  same = ap nodeOf (sym (r .is))
 
-  pub housed-more : 11 ≤ x .0 → x .1 < 16 → Housed c (suc j) (set t (x .1) j)
-  housed-more l low =
-      let k = binder-kind c j r valid there l in
-      record {
-        long = length-set t (x .1) j ∙ H .long;
-        is = λ i {d} {v} {b} h e. elim (ℕ-discrete i j) [
-          | yes q ↦
-              let f : bind (eqb (x .0) 11) (x .1) (x .2) ≡ bind d v b = sym k ∙ subst (λ i. nodeAt c i ≡ bind d v b) q e in
-              let g : v ≡ x .1 = cc in
-              ap (λ v. getD (set t (x .1) j) v 0) g ∙ getD-set-same t (x .1) j 0 (rw (H .long) low) ∙ sym q
-          | no q ↦ getD-set-other t (x .1) v j 0 (λ z. q (one-binder valid i j (omega arith) there (subst (λ v. nodeAt c i ≡ bind d v b) z e) k)) ∙ H .is i (omega arith) e
-        ];
-      }
+  pub binds-low : isBinder (nodeOf (triple x)) ≡ true → x .1 < 16
+  binds-low q = let (d, e) = binder-node (triple x) q in binder-fits valid j there (same ∙ e) .0
 
-  pub housed-next : {r′ : List ℕ} → r′ ≡ cond (leb 11 (x .0)) (set t (x .1) j) t → Housed c (suc j) r′
-  housed-next {r′} e = elim (decLt (x .0) 11) [
-    | yes l ↦ rw (e, lt-leb 11 (x .0) l) (housed-same l)
-    | no l ↦
-        let q = ap (λ (x : Triple). x .0) (r .is) in
-        let low = body-low valid j there (subst (λ k. 11 ≤ k) q (omega arith)) in
-        let a = ap (λ (x : Triple). x .1) (r .is) in
-        rw (e, le-leb 11 (x .0) (omega arith)) (housed-more (omega arith) (omega (arith, low)))
-  ]
+  module _ {t : List ℕ} (H : Housed c j t) where
+    housed-same : isBinder (nodeOf (triple x)) ≡ false → Housed c (suc j) t
+    housed-same n = record {
+      long = H .long;
+      is = λ i {d} {v} {b} h e. elim (ℕ-discrete i j) [
+        | yes q ↦
+            let z : true ≡ false = ap isBinder (sym (subst (λ i. nodeAt c i ≡ bind d v b) q e) ∙ same) ∙ n in
+            absurd (let w : _≡_ {A = ℕ} 0 1 = cc in omega arith)
+        | no q ↦ H .is i (omega arith) e
+      ];
+    }
+
+    housed-more : isBinder (nodeOf (triple x)) ≡ true → Housed c (suc j) (set t (x .1) j)
+    housed-more n =
+        let (d, m) = binder-node (triple x) n in
+        let k = same ∙ m in
+        record {
+          long = length-set t (x .1) j ∙ H .long;
+          is = λ i {d = d′} {v} {b} h e. elim (ℕ-discrete i j) [
+            | yes q ↦
+                let f : bind d (x .1) (x .2) ≡ bind d′ v b = sym k ∙ subst (λ i. nodeAt c i ≡ bind d′ v b) q e in
+                let g : v ≡ x .1 = cc in
+                ap (λ v. getD (set t (x .1) j) v 0) g ∙ getD-set-same t (x .1) j 0 (rw (H .long) (binds-low n)) ∙ sym q
+            | no q ↦
+                getD-set-other t (x .1) v j 0 (λ z. q (one-binder valid i j (omega arith) there (subst (λ v. nodeAt c i ≡ bind d′ v b) z e) k))
+                ∙ H .is i (omega arith) e
+          ];
+        }
+
+    pub housed-next : {r′ : List ℕ} → r′ ≡ cond (isBinder (nodeOf (triple x))) (set t (x .1) j) t → Housed c (suc j) r′
+    housed-next {r′} e = go (isBinder (nodeOf (triple x))) refl e
+      where
+        go : (b : Bool) → isBinder (nodeOf (triple x)) ≡ b → r′ ≡ cond b (set t (x .1) j) t → Housed c (suc j) r′
+        go true n e = subst (Housed c (suc j)) (sym e) (housed-more n)
+        go false n e = subst (Housed c (suc j)) (sym e) (housed-same n)

@@ -1,4 +1,3 @@
 pub mod Tables
 pub mod Plans
-pub mod Reaching
-pub mod Told
+pub mod EnumNumbers

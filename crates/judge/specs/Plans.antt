@@ -1,7 +1,7 @@
 -- What the recursion over nodes keeps: the plan is that of the case, and blocks of the work area hold the meanings of nodes.
 -- The private contracts cite these; the public one does not.
-use Prim.Native.Nat.{ℕ, suc, _+_, _*_, _^_, _≤_, _<_}
-use mathlib.Core.Bool.{Bool, true}
+use Prim.Native.Nat.{ℕ, suc, _+_, _-_, _*_, _^_, _≤_, _<_}
+use mathlib.Core.Bool.{Bool, true, cond}
 use mathlib.Core.List.{List}
 use mathlib.Core.Path.{_≡_}
 use lib.Bits.{bitOr, bitAnd}
@@ -9,13 +9,15 @@ use lib.Dec.{T, eqb}
 use lib.ListN.{length, getD}
 use Rattle.flc.specs.Sets.{either, has, setOf}
 use Rattle.flc.specs.Functions.{Fun, rounds}
-use Rattle.flc.specs.Formula.{Table, Op, or, and, chop, var, Formula, Env, put, mean, free}
+use Rattle.flc.specs.Formula.{Table, Atom, Op, or, and, chop, var, Formula, Env, put, meanAtom, mean, free}
 use Rattle.flc.specs.Nodes.{Node, leaf, two, bind, formulaAt}
-use Rattle.flc.proofs.Order.{Sub, Below, Agree}
-use Rattle.flc.proofs.Meanings.{GoodEnv}
-use Rattle.case_model.specs.Case.{Triple, Case, listed, table, nodeAt}
-use Rattle.case_model.proofs.Valid.{Valid}
-use Rattle.judge.specs.Tables.{from}
+use Rattle.flc.specs.Order.{Sub, Below, Agree, GoodEnv}
+use Rattle.case_model.specs.Limits.{standard}
+use Rattle.case_model.specs.Case.{Case, table, nodeAt}
+use Rattle.case_model.specs.Valid.{Valid}
+use Rattle.case_model.specs.Areas.{Filled, from}
+use Rattle.case_reader.specs.StepRows.{relation}
+use Rattle.judge.specs.Tables.{everyMark}
 
 -- ---- the plan
 -- n, 2^n, and the rounds after which approximants stand still; for each node what it depends on, for each variable its binder,
@@ -44,6 +46,7 @@ decoded t = record {
 pub record Sized (p : Plan) : Type 0 where
   pub few : p .states ≤ 16
   pub size : p .size ≡ 2 ^ p .states
+  pub props : (i : ℕ) → i < 8 → p .props i < p .size
   pub sources : (k : ℕ) → k < 128 → p .sources k < 65536
 
 -- the plan has the sets of the state table
@@ -72,10 +75,10 @@ pub record Scoped (c : Case) (p : Plan) : Type 0 where
       → Within (scope p a) (scope p j) × Within (scope p b) (scope p j)
   pub body : (j : ℕ) {d : Bool} {v b : ℕ} → j < length (c .nodes) → nodeAt c j ≡ bind d v b
       → (s : ℕ) → s < 18 → T (has (scope p b) s) → T (either (has (scope p j) s) (eqb s v))
-  pub root : scope p (c .root) ≡ 65536
+  pub root : scope p (c .root) ≡ everyMark
 
 pub record Planned (c : Case) (p : Plan) : Type 0 where
-  pub valid : Valid c
+  pub valid : Valid standard c
   pub sized : Sized p
   pub drawn : Drawn (table c) p
   pub limit : p .limit ≡ p .states * p .size
@@ -90,13 +93,35 @@ block p w i = from w (i * p .size)
 abbrev pub Small : Plan → List ℕ → Type 0
 Small p w = (q : ℕ) → getD w q 0 < p .size
 
+-- two tables under an operator
+abbrev pub combined : Op → Fun → Fun → Fun
+combined or f g x = bitOr (f x) (g x)
+combined and f g x = bitAnd (f x) (g x)
+combined chop f g x = f (g x)
+
 -- what is filled in for a node that is no binder, from the tables T of the nodes and the functions ρ of the variables
 abbrev pub value : Table → Node → (ℕ → Fun) → Env → Fun
 value L (leaf p) T ρ = mean L p ρ
-value L (two or a b) T ρ = λ x. bitOr (T a x) (T b x)
-value L (two and a b) T ρ = λ x. bitAnd (T a x) (T b x)
-value L (two chop a b) T ρ = λ x. T a (T b x)
+value L (two o a b) T ρ = combined o (T a) (T b)
 value L (bind d v b) T ρ = T b
+
+-- v is w with the table of an atom from `base` on
+abbrev pub AtomFilled : Plan → List ℕ → List ℕ → ℕ → Atom → Type 0
+AtomFilled p w v base x = (L : Table) → Drawn L p → Filled w v base (p .size) (meanAtom L x)
+
+-- two tables of w below the one from `base` on; the second has entries of sets
+pub record Beneath (w : List ℕ) (size left right base : ℕ) : Type 0 where
+  pub first : left + size ≤ base
+  pub second : right + size ≤ base
+  pub room : base + size ≤ length w
+  pub sets : (x : ℕ) → x < size → from w right x < size
+
+abbrev pub OperatorFilled : List ℕ → List ℕ → ℕ → ℕ → ℕ → ℕ → Op → Type 0
+OperatorFilled w v size left right base o = Filled w v base size (combined o (from w left) (from w right))
+
+-- v is w with what is filled in for node j
+abbrev pub NodeFilled : Case → Plan → List ℕ → List ℕ → ℕ → Type 0
+NodeFilled c p w v j = Filled w v (j * p .size) (p .size) (value (table c) (nodeAt c j) (block p w) (λ v. block p w (home p v)))
 
 pub record Fillable (c : Case) (p : Plan) (w : List ℕ) (j : ℕ) : Type 0 where
   pub planned : Planned c p
@@ -141,9 +166,26 @@ pub record Older (n : ℕ) (d : Bool) (ρ : Env) (Q : Env → Type 0) : Type 0 w
   pub below : (v : ℕ) → Below d n (env v) (ρ v)
   pub held : Q env
 
--- since Q held, the functions moved only as those of a binder of the kind `grown` do: up for μ, down for ν; 0 if nothing is known
+-- where the functions moved: nothing is known, up or down; a least fixed point is approached from below, a greatest from above
+abbrev pub anew : ℕ
+anew = 0
+
+abbrev pub up : ℕ
+up = 1
+
+abbrev pub down : ℕ
+down = 2
+
+abbrev pub direction : Bool → ℕ
+direction least = cond least up down
+
+-- what a binder's table begins with: the old one if the binder moves on in the direction `grown`, else approximant 0
+abbrev pub begins : Bool → ℕ → ℕ → Fun → Fun
+begins least grown size old x = cond (eqb (direction least) grown) (old x) (cond least 0 (size - 1))
+
+-- since Q held, the functions moved only in the direction `grown`, if one is known
 abbrev pub Grown : ℕ → ℕ → Env → (Env → Type 0) → Type 0
-Grown n grown ρ Q = 0 < grown → Older n (eqb grown 11) ρ Q
+Grown n grown ρ Q = anew < grown → Older n (eqb grown up) ρ Q
 
 -- the nodes below k were computed, for all functions of the active variables
 pub record Refreshed (c : Case) (p : Plan) (w v : List ℕ) (k old act grown : ℕ) : Type 0 where
@@ -166,7 +208,7 @@ pub record Computed (c : Case) (p : Plan) (w v : List ℕ) (j act grown r : ℕ)
   pub kept : Kept p w v (suc j)
   pub right : (ρ : Env) → GoodEnv (table c .n) ρ → Matches c p ρ act w → Right c p ρ act w j
       → Grown (table c .n) grown ρ (λ σ. RightAt c p σ w j)
-      → Right c p ρ act v (suc j) × (grown ≡ 0 → r ≡ roundsIn (table c) (nodeAt c j) (formulaAt (nodeAt c)) ρ)
+      → Right c p ρ act v (suc j) × (grown ≡ anew → r ≡ roundsIn (table c) (nodeAt c j) (formulaAt (nodeAt c)) ρ)
 
 -- ---- what the plan is made of
 -- the first k propositions' sets of the states below n
@@ -174,11 +216,10 @@ pub record Labelled (c : Case) (n k : ℕ) (t : List ℕ) : Type 0 where
   pub long : length t ≡ 8
   pub is : (i : ℕ) → i < k → getD t i 0 ≡ setOf n (λ s. has (getD (c .labels) s 0) i)
 
--- the sources of a list of steps between n states
-pub record Sourced (n : ℕ) (l : List Triple) (t : List ℕ) : Type 0 where
-  pub long : length t ≡ 128
-  pub small : (k : ℕ) → getD t k 0 < 2 ^ n
-  pub is : (a e s : ℕ) → a < 8 → e < 16 → has (getD t (16 * a + e) 0) s ≡ listed l s a e
+-- the first k columns of the rows of a step relation between n states: for action a and state t, at 16a + t, the states with an a-step to t
+pub record Sourced (rows : List ℕ) (n k : ℕ) (r : List ℕ) : Type 0 where
+  pub long : length r ≡ 128
+  pub is : (a t : ℕ) → a < 8 → t < 16 → 16 * a + t < k → getD r (16 * a + t) 0 ≡ setOf n (λ s. relation rows s a t)
 
 -- the binders below k
 pub record Housed (c : Case) (k : ℕ) (t : List ℕ) : Type 0 where

@@ -1,24 +1,27 @@
 -- Tables in the work area, as the contracts of the functions on them say it.
-use Prim.Native.Nat.{ℕ, _+_, _≤_, _<_}
+use Prim.Native.Nat.{ℕ, _+_, _<_}
+use mathlib.Core.Bool.{Bool, cond}
 use mathlib.Core.List.{List}
 use mathlib.Core.Path.{_≡_}
-use lib.ListN.{length, getD}
+use lib.ListN.{getD}
+use Rattle.flc.specs.Sets.{has}
 use Rattle.flc.specs.Functions.{Fun}
+use Rattle.case_model.specs.Areas.{Filled, from}
 
--- the words of w from `base` on
-abbrev pub from : List ℕ → ℕ → Fun
-from w base x = getD w (base + x) 0
+-- the marks in a scope, beyond all variables: bit 16, which each node has, and bit 17, of a node that the root does not reach
+abbrev pub everyMark : ℕ
+everyMark = 65536
 
--- the scopes of nodes from their free variables and the marks of those that the root does not reach
-abbrev pub scopesFrom : List ℕ → List ℕ → Fun
-scopesFrom frees unreached j = getD frees j 0 + 65536 + getD unreached j 0
+abbrev pub unreachedMark : ℕ
+unreachedMark = 131072
 
--- v is w with `count` words from `base` on filled by f
-pub record Filled (w v : List ℕ) (base count : ℕ) (f : Fun) : Type 0 where
-  pub long : length v ≡ length w
-  pub inside : (x : ℕ) → x < count → from v base x ≡ f x
-  pub under : (p : ℕ) → p < base → getD v p 0 ≡ getD w p 0
-  pub over : (p : ℕ) → base + count ≤ p → getD v p 0 ≡ getD w p 0
+-- a node's scope from its free variables and whether it is reached
+abbrev pub scopeOf : ℕ → Bool → ℕ
+scopeOf free reached = free + everyMark + cond reached 0 unreachedMark
+
+-- the scopes of nodes from the table of free variables and the set of reached nodes
+abbrev pub scopesFrom : List ℕ → ℕ → Fun
+scopesFrom frees reached j = scopeOf (getD frees j 0) (has reached j)
 
 -- the table at c became that at b, and r is 0 just if it was that already
 pub record Advanced (w v : List ℕ) (b c count r : ℕ) : Type 0 where

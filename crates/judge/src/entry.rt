@@ -1,14 +1,17 @@
 // The entry. It takes any bytes, any set and any work area.
 ghost use mathlib.Core.Path.{_≡_};
 ghost use lib.ListN.{length};
+ghost use Rattle.case_model.specs.Limits.{standard};
 ghost use Rattle.case_model.specs.Case.{read};
 ghost use Rattle.case_model.specs.Rows.{refusals, sound};
 ghost use Rattle.case_model.specs.Judging.{judging, cleared, verdict};
 ghost use Rattle.judge.specs.Plans.{decoded, Asked};
-ghost use Rattle.judge.specs.Told.{told, answer};
+ghost use Rattle.judge.specs.EnumNumbers.{judgedReply, answer};
+use crate::plan::EVERY;
 use crate::plan::Plan;
 use crate::plan::SIZE;
 use crate::plan::plan;
+use crate::refresh::ANEW;
 use crate::refresh::compute;
 use crate::refresh::refresh;
 use crate::tables::constant;
@@ -39,8 +42,8 @@ fn answer(work: &mut [u16], file: &[u8], plan: &Plan, set: u16) -> Verdict
     let top = root(file);
     let size = plan[SIZE];
     constant(work, all, 0, 0);
-    refresh(work, file, plan, top, 0, 65536, 0);
-    let rounds = compute(work, file, plan, top, 65536, 0);
+    refresh(work, file, plan, top, 0, EVERY, ANEW);
+    let rounds = compute(work, file, plan, top, EVERY, ANEW);
     let at = top * size + set as usize;
     let value = work[at];
     Verdict { set: value, rounds }
@@ -48,8 +51,8 @@ fn answer(work: &mut [u16], file: &[u8], plan: &Plan, set: u16) -> Verdict
 
 // Of an accepted case: rows 8 and 9, then the answer, after which the area is cleared.
 fn judge_accepted(file: &[u8], set: u16, work: &mut [u16]) -> Judged
-    requires { ⌜ refusals (now file) ≡ sound ⌝ }
-    ensures { λ r. ⌜ told r ≡ judging (now (file .entry)) set (length (now (work .entry))) ⌝ }
+    requires { ⌜ refusals standard (now file) ≡ sound ⌝ }
+    ensures { λ r. ⌜ judgedReply r ≡ judging (now (file .entry)) set (length (now (work .entry))) ⌝ }
     ensures { λ r. ⌜ now (work .exit) ≡ cleared (judging (now (file .entry)) set (length (now (work .entry)))) (now (work .entry)) ⌝ }
 {
     let n = state_count(file);
@@ -77,7 +80,7 @@ fn judge_accepted(file: &[u8], set: u16, work: &mut [u16]) -> Judged
 
 // The root's function at a set, and its rounds, or the first refusal.
 pub fn judge(file: &[u8], set: u16, work: &mut [u16]) -> Judged
-    ensures { λ r. ⌜ told r ≡ judging (now (file .entry)) set (length (now (work .entry))) ⌝ }
+    ensures { λ r. ⌜ judgedReply r ≡ judging (now (file .entry)) set (length (now (work .entry))) ⌝ }
     ensures { λ r. ⌜ now (work .exit) ≡ cleared (judging (now (file .entry)) set (length (now (work .entry)))) (now (work .entry)) ⌝ }
 {
     let vetted = Case::new(file);

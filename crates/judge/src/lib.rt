@@ -3,7 +3,6 @@ mod entry;
 mod nodes;
 mod plan;
 mod refresh;
-mod scopes;
 mod sets;
 mod tables;
 

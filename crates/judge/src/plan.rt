@@ -1,16 +1,20 @@
 // What a call works out once: one table of words, in which the recursion over nodes looks things up. It is lent, not copied.
 ghost use mathlib.Core.Path.{_≡_};
-ghost use Prim.Native.Nat.{ℕ, _+_, _*_, _≤_, _<_};
+ghost use Prim.Native.Nat.{_+_, _*_, _≤_, _<_};
 ghost use lib.ListN.{length, getD};
+ghost use Rattle.flc.specs.Sets.{has};
+ghost use Rattle.case_model.specs.Limits.{standard, mostNodes};
 ghost use Rattle.case_model.specs.Case.{read};
-ghost use Rattle.case_model.proofs.Valid.{Valid};
-ghost use Rattle.judge.specs.Tables.{Filled, scopesFrom};
+ghost use Rattle.case_model.specs.Valid.{Valid};
+ghost use Rattle.judge.specs.Tables.{scopeOf, scopesFrom};
+ghost use Rattle.case_model.specs.Areas.{Filled};
 ghost use Rattle.judge.specs.Plans.{decoded, Planned};
-use crate::scopes::unreached;
 use crate::sets::homes;
 use crate::sets::props;
 use crate::sets::sources;
 use case_reader::masks;
+use case_reader::reached;
+use case_reader::step_rows;
 
 // The places in it: n.
 pub(crate) const STATES: usize = 0;
@@ -21,8 +25,14 @@ pub(crate) const SIZE: usize = 1;
 // The rounds after which approximants stand still.
 pub(crate) const LIMIT: usize = 2;
 
-// For each node: what it depends on.
+// For each node: what it depends on, a set of variables with these two marks beyond them.
 pub(crate) const SCOPES: usize = 3;
+
+// The mark that each node has.
+pub(crate) const EVERY: u32 = 65536;
+
+// The mark of a node that the root does not reach.
+const UNREACHED: u32 = 131072;
 
 // For each variable: its binder.
 pub(crate) const HOMES: usize = 67;
@@ -35,13 +45,23 @@ pub(crate) const SOURCES: usize = 91;
 
 pub(crate) type Plan = [usize; 219];
 
-// The free variables as a mask, a mark that each node has, and the mark of a node that the root does not reach.
-fn put_scopes(plan: &mut Plan, frees: [u16; 64], unreached: [u32; 64])
-    requires { ⌜ (length (now plan) ≡ 219) × ((j : ℕ) → j < 64 → getD unreached j 0 ≤ 131072) ⌝ }
-    ensures { λ _. ⌜ Filled (now (plan .entry)) (now (plan .exit)) 3 64 (scopesFrom frees unreached) ⌝ }
+// The scope of node j, from its free variables and the set of the nodes that are reached.
+fn scope_of(free: u16, reached: u64, j: usize) -> u32
+    requires { ⌜ j < mostNodes ⌝ }
+    ensures { λ r. ⌜ r ≡ scopeOf free (has reached j) ⌝ }
+{
+    let bit = (reached >> j) % 2;
+    let scope = free as u32 + EVERY;
+    if bit == 0 { scope + UNREACHED } else { scope }
+}
+
+// That of each node.
+fn put_scopes(plan: &mut Plan, frees: [u16; 64], reached: u64)
+    requires { ⌜ length (now plan) ≡ 219 ⌝ }
+    ensures { λ _. ⌜ Filled (now (plan .entry)) (now (plan .exit)) 3 mostNodes (scopesFrom frees reached) ⌝ }
 {
     for j in 0..64 {
-        plan[SCOPES + j] = frees[j] as usize + 65536 + unreached[j] as usize;
+        plan[SCOPES + j] = scope_of(frees[j], reached, j) as usize;
     }
 }
 
@@ -57,20 +77,20 @@ fn put(plan: &mut Plan, base: usize, part: &[usize])
 
 // The plan of an accepted case.
 pub(crate) fn plan(file: &[u8], states: usize, nodes: usize) -> Plan
-    requires { ⌜ Valid (read (now file)) × (states ≡ length (read (now file) .labels)) × (nodes ≡ length (read (now file) .nodes)) ⌝ }
+    requires { ⌜ Valid standard (read (now file)) × (states ≡ length (read (now file) .labels)) × (nodes ≡ length (read (now file) .nodes)) ⌝ }
     ensures { λ r. ⌜ Planned (read (now (file .entry))) (decoded r) ⌝ }
 {
     let size = 1usize << states;
     let frees = masks(file);
-    let unreached = unreached(file);
+    let reached = reached(file);
     let homes = homes(file, nodes);
     let props = props(file, states);
-    let sources = sources(file);
+    let sources = sources(step_rows(file), states);
     let mut plan = [0usize; 219];
     plan[STATES] = states;
     plan[SIZE] = size;
     plan[LIMIT] = states * size;
-    put_scopes(&mut plan, frees, unreached);
+    put_scopes(&mut plan, frees, reached);
     put(&mut plan, HOMES, &homes);
     put(&mut plan, PROPS, &props);
     put(&mut plan, SOURCES, &sources);

@@ -2,11 +2,10 @@
 ghost use mathlib.Core.Bool.{cond};
 ghost use mathlib.Core.Path.{_≡_};
 ghost use Prim.Native.Nat.{_+_, _-_, _^_, _≤_, _<_};
-ghost use lib.Dec.{eqb};
 ghost use lib.ListN.{length};
 ghost use Rattle.case_model.specs.Case.{read};
-ghost use Rattle.judge.specs.Tables.{Filled, from};
-ghost use Rattle.judge.specs.Plans.{decoded, scope, Ready, Refreshed, Computable, Computed};
+ghost use Rattle.case_model.specs.Areas.{Filled, from};
+ghost use Rattle.judge.specs.Plans.{decoded, scope, direction, begins, Ready, Refreshed, Computable, Computed};
 use crate::nodes::fill;
 use crate::plan::LIMIT;
 use crate::plan::Plan;
@@ -14,7 +13,16 @@ use crate::plan::SCOPES;
 use crate::plan::SIZE;
 use crate::tables::advance;
 use crate::tables::constant;
+use case_reader::Kind;
+use case_reader::kind_of;
 use case_reader::node;
+
+// Where the tables of binders moved since a node was last computed: it starts anew, or one moved up, or down.
+pub(crate) const ANEW: usize = 0;
+
+const UP: usize = 1;
+
+const DOWN: usize = 2;
 
 // What node j depends on.
 fn scope(plan: &Plan, j: usize) -> u32
@@ -32,27 +40,35 @@ fn variable(v: usize) -> u32
     1u32 << v
 }
 
-// The value of approximant 0: no states for μ, all for ν.
-fn start(kind: usize, size: usize) -> u16
-    requires { ⌜ (1 ≤ size) × (size ≤ 65536) ⌝ }
-    ensures { λ r. ⌜ r ≡ cond (eqb kind 11) 0 (size - 1) ⌝ }
+// The direction in which a binder's approximants move.
+fn direction(least: bool) -> usize
+    ensures { λ r. ⌜ r ≡ direction least ⌝ }
 {
-    if kind == 11 { 0 } else { (size - 1) as u16 }
+    if least { UP } else { DOWN }
+}
+
+// The value of approximant 0: no states for μ, all for ν.
+fn start(least: bool, size: usize) -> u16
+    requires { ⌜ (1 ≤ size) × (size ≤ 65536) ⌝ }
+    ensures { λ r. ⌜ r ≡ cond least 0 (size - 1) ⌝ }
+{
+    if least { 0 } else { (size - 1) as u16 }
 }
 
 // The table that a binder begins with: its old one if only a binder of the same kind has moved since, else approximant 0.
-fn begin(work: &mut [u16], size: usize, here: usize, kind: usize, grown: usize)
+fn begin(work: &mut [u16], size: usize, here: usize, least: bool, grown: usize)
     requires { ⌜ (1 ≤ size) × (size ≤ 65536) × (here + size ≤ length (now work)) ⌝ }
-    ensures { λ _. ⌜ Filled (now (work .entry)) (now (work .exit)) here size (λ x. cond (eqb kind grown) (from (now (work .entry)) here x) (cond (eqb kind 11) 0 (size - 1))) ⌝ }
+    ensures { λ _. ⌜ Filled (now (work .entry)) (now (work .exit)) here size (begins least grown size (from (now (work .entry)) here)) ⌝ }
 {
-    if kind == grown {
+    let way = direction(least);
+    if way == grown {
         return;
     }
-    constant(work, size, here, start(kind, size));
+    constant(work, size, here, start(least, size));
 }
 
 // Computes the nodes below k that depend only on what is in `act`, and not only on what is in `old`.
-// `grown` is the kind of the binder whose table alone has moved, in its own direction, since they were last computed; 0 if they start anew.
+// `grown` is the direction in which one binder's table alone has moved since they were last computed.
 pub(crate) fn refresh(
     work: &mut [u16],
     file: &[u8],
@@ -96,26 +112,27 @@ pub(crate) fn compute(
     ensures { λ r. ⌜ Computed (read (now (file .entry))) (decoded (now (plan .entry))) (now (work .entry)) (now (work .exit)) j act grown r ⌝ }
 {
     let x = node(file, j);
-    let kind = x.0;
-    if kind < 11 {
+    let kind = kind_of(x);
+    let Kind::Binder(least) = kind else {
         fill(work, file, plan, j);
         return 0;
-    }
+    };
     let size = plan[SIZE];
     let limit = plan[LIMIT];
     let here = j * size;
     let body = x.2 * size;
     let wide = act | variable(x.1);
-    begin(work, size, here, kind, grown);
+    let way = direction(least);
+    begin(work, size, here, least, grown);
     let mut r: usize = 0;
-    let mut moved: usize = 0;
+    let mut moved: usize = ANEW;
     while r < limit {
         refresh(work, file, plan, j, act, wide, moved);
         let change = advance(work, size, body, here);
         if change == 0 {
             return r;
         }
-        moved = kind;
+        moved = way;
         r += 1;
     }
     r

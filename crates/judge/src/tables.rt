@@ -2,7 +2,8 @@
 ghost use Prim.Native.Nat.{ℕ, _+_, _≤_, _<_};
 ghost use lib.ListN.{length};
 ghost use lib.Bits.{bitOr, bitAnd};
-ghost use Rattle.judge.specs.Tables.{Filled, Advanced, from};
+ghost use Rattle.judge.specs.Tables.{Advanced};
+ghost use Rattle.case_model.specs.Areas.{Filled, from};
 
 // One value everywhere.
 pub(crate) fn constant(work: &mut [u16], count: usize, c: usize, v: u16)

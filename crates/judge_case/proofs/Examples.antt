@@ -8,8 +8,10 @@ use lib.ListN.{length}
 use Rattle.flc.specs.Sets.{both, either, forAll, forSome, first, has, setOf}
 use Rattle.flc.specs.Formula.{free}
 use Rattle.flc.specs.Nodes.{lower, formulaAt}
-use Rattle.case_model.specs.Bytes.{longest, sections, listOf, chained, pairsHold, section}
-use Rattle.case_model.specs.Case.{kinds, nodeOf, nodeAt, rule}
+use Rattle.case_model.specs.Bytes.{listOf, chained, pairsHold, section}
+use Rattle.case_model.specs.Limits.{sections, standard}
+use Rattle.case_model.specs.Case.{nodeAt, rule}
+use Rattle.case_model.specs.Kinds.{kinds, kindAt}
 use Rattle.case_model.specs.Rows.{lowest, rootClosed, refusals}
 use Rattle.case_model.specs.Replies.{answers}
 use Rattle.case_model.specs.Judging.{verdict, judging}
@@ -47,10 +49,10 @@ print-F = ap (printed 2) judged
 
 -- node 4, νZ.Y;Z;Y, leaves Y free: "refused 7 0"
 pub print-7 : page (caseF 4) 32768 ≡ 114 ∷ 101 ∷ 102 ∷ 117 ∷ 115 ∷ 101 ∷ 100 ∷ 32 ∷ 55 ∷ 32 ∷ 48 ∷ 10 ∷ []
-unfolding printed numeral first refusals pairsHold chained section listOf lowest forAll forSome both either rootClosed rule formulaAt lower nodeAt nodeOf kinds free
+unfolding printed numeral first refusals pairsHold chained section listOf lowest forAll forSome both either rootClosed rule formulaAt lower nodeAt kindAt kinds free
 print-7 = refused-page (caseF 4) 32768 7 0 refl
 
 -- clause 9.4
-pub print-longer : (f : List ℕ) (words : ℕ) → longest < length f → page f words ≡ 114 ∷ 101 ∷ 102 ∷ 117 ∷ 115 ∷ 101 ∷ 100 ∷ 32 ∷ 49 ∷ 32 ∷ 48 ∷ 10 ∷ []
+pub print-longer : (f : List ℕ) (words : ℕ) → standard .longest < length f → page f words ≡ 114 ∷ 101 ∷ 102 ∷ 117 ∷ 115 ∷ 101 ∷ 100 ∷ 32 ∷ 49 ∷ 32 ∷ 48 ∷ 10 ∷ []
 unfolding printed numeral first refusals pairsHold
-print-longer f words h = refused-page f words 1 0 (rw (le-leb (4 * sections) (length f) (omega arith), lt-leb (length f) longest h))
+print-longer f words h = refused-page f words 1 0 (rw (le-leb (4 * sections) (length f) (omega arith), lt-leb (length f) (standard .longest) h))

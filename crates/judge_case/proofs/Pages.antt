@@ -7,7 +7,8 @@ use lib.ListN.{length}
 use Rattle.flc.specs.Sets.{setOf}
 use Rattle.case_file.proofs.Answers.{replied-sound}
 use Rattle.case_model.specs.Case.{read}
-use Rattle.case_model.specs.Rows.{Found, sound, refused, mostStates, _orElse_, row8, refusals}
+use Rattle.case_model.specs.Rows.{Found, sound, refused, _orElse_, row8, refusals}
+use Rattle.case_model.specs.Limits.{mostStates, standard}
 use Rattle.case_model.specs.Replies.{Reply, answers, refuses}
 use Rattle.case_model.specs.Judging.{Verdict, verdict, row9, judging}
 use Rattle.case_model.specs.Run.{allStates}
@@ -19,17 +20,17 @@ use Rattle.judge_case.specs.Printed.{printed, page}
 pub judged-few : (f : List ℕ) (x words : ℕ) {v : Verdict} → answers v ≡ judging f x words → length (read f .labels) ≤ mostStates
 unfolding judging
 judged-few f x words {v} e =
-    let (s, _) = replied-sound (refusals f orElse row8 x (2 ^ length (read f .labels)) orElse row9 (read f) words) (verdict (read f) x) v (sym e) in
-    accepted-valid f (left-sound _ _ (left-sound _ _ s)) .few
+    let (s, _) = replied-sound (refusals standard f orElse row8 x (2 ^ length (read f .labels)) orElse row9 (read f) words) (verdict (read f) x) v (sym e) in
+    accepted-valid standard f (left-sound _ _ (left-sound _ _ s)) .table .few
 
 -- a set that is all states of a case, where the file is one
 all-judged : (f : List ℕ) (x words : ℕ) → (length (read f .labels) ≤ mostStates → x ≡ allStates (read f))
     → judging f x words ≡ judging f (allStates (read f)) words
 unfolding judging
-all-judged f x words a = go (refusals f) refl
+all-judged f x words a = go (refusals standard f) refl
   where
-    go : (r : Found) → refusals f ≡ r → judging f x words ≡ judging f (allStates (read f)) words
-    go sound h = ap (λ y. judging f y words) (a (accepted-valid f h .few))
+    go : (r : Found) → refusals standard f ≡ r → judging f x words ≡ judging f (allStates (read f)) words
+    go sound h = ap (λ y. judging f y words) (a (accepted-valid standard f h .table .few))
     go (refused k p) h = rw h
 
 pub judged-page : (f : List ℕ) (words n x : ℕ) {r : Reply Verdict} → n ≡ length (read f .labels)
@@ -39,6 +40,6 @@ judged-page f words n x l a h =
     ap₂ printed l (h ∙ all-judged f x words (subst (λ k. k ≤ mostStates → x ≡ setOf k (λ s. true)) l a))
 
 -- the page of a file that one of rows 1 to 7 refuses
-pub refused-page : (f : List ℕ) (words k p : ℕ) → refusals f ≡ refused k p → page f words ≡ printed 0 (refuses k p)
+pub refused-page : (f : List ℕ) (words k p : ℕ) → refusals standard f ≡ refused k p → page f words ≡ printed 0 (refuses k p)
 unfolding page judging printed
 refused-page f words k p e = rw e

@@ -1,37 +1,24 @@
--- Texts in an array, byte by byte, and numerals.
--- After i turns the array has the old text and the first i bytes of the new one; the digits of a number are as few as hold it, so they are its numeral.
+-- Numerals, and pages of text that grow.
+-- A text after a text is one run; the digits of a number are as few as hold it, so they are its numeral.
 use Prim.Native.Nat.{ℕ, zero, suc, _+_, _-_, _/_, _^_, _≤_, _<_}
 use mathlib.Core.Bool.{Bool, true, false, cond}
-use mathlib.Core.List.{List, [], _∷_, _++_, append-assoc, append-nil}
-use mathlib.Core.Path.{_≡_, refl, sym, ap, _∙_, subst}
+use mathlib.Core.List.{List, _++_}
+use mathlib.Core.Path.{_≡_, refl, sym, ap, ap₂, _∙_, subst}
 use native.Mathlib.Decide.{ℕ-discrete, decLt}
 use native.Mathlib.Nat.{le-trans, pow-le-pow-right}
 use native.Mathlib.Numerals.{add-one}
 use native.Mathlib.Omega.{arith}
 use borrow.Author.Tests.{lt-ltb, le-ltb}
 use lib.Dec.{ltb}
-use lib.ListN.{length, take, set, getD, length-append}
-use lib.Seq.{take-suc, take-suc-set, take-length, length-take-le}
+use lib.ListN.{length, take, drop, length-append}
+use lib.Seq.{take-append-seam, length-take-le}
 use Rattle.io.specs.Digits.{digits, Fewest}
 use Rattle.flc.specs.Sets.{first, has}
 use Rattle.flc.proofs.Tests.{first-le}
 use Rattle.judge_case.specs.declared.Page.{Page}
-use Rattle.judge_case.specs.Printed.{yesText, noText, end, numeral, line, lines, text, Shows, Grew}
-
--- one byte more
-pub one-byte : (w v what : List ℕ) (base i : ℕ) → take (base + i) v ≡ take base w ++ take i what → base + i < length v → i < length what
-    → take (base + (i + 1)) (set v (base + i) (getD what i 0)) ≡ take base w ++ take (i + 1) what
-one-byte w v what base i e h l =
-    let s : base + (i + 1) ≡ suc (base + i) = omega arith in
-    rw (s, add-one i) (
-    take-suc-set v (base + i) (getD what i 0) h ∙ ap (λ z. z ++ (getD what i 0 ∷ [])) e
-    ∙ append-assoc (take base w) (take i what) _ ∙ ap (λ z. take base w ++ z) (sym (take-suc what i 0 l))
-    )
-
--- the whole of a text
-pub all-of : (w v what : List ℕ) (base i k : ℕ) → take (base + i) v ≡ take base w ++ take i what → i ≡ k → k ≡ length what → take (base + k) v ≡ take base w ++ what
-all-of w v what base i k e h l =
-    ap (λ z. take (base + z) v) (sym h) ∙ e ∙ ap (λ z. take base w ++ take z what) (h ∙ l) ∙ ap (λ z. take base w ++ z) (take-length what)
+use Rattle.case_model.specs.Areas.{Laid}
+use Rattle.case_model.proofs.Laying.{laid-after, laid-whole}
+use Rattle.judge_case.specs.Printed.{yesText, noText, end, numeral, line, lines, Shows, Grew, Blank}
 
 -- ---- numerals
 -- the first number from i on that passes
@@ -67,23 +54,16 @@ unfolding numeral
 numeral-short n = rw (digits-long (first (λ k. ltb n (10 ^ k)) 1 19) n) (first-le (λ k. ltb n (10 ^ k)) 1 19)
 
 -- ---- pages
--- a text after a text
-pub grew-after : {p q r : Page} {l m : List ℕ} → Grew p q l → Grew q r m → Grew p r (l ++ m)
-grew-after {p} {q} {r} {l} {m} a b = record {
-  is = b .is ∙ ap (λ z. z ++ m) (a .is) ∙ append-assoc (text p) l m;
-  long = omega (arith, a .long, b .long, length-append l m);
-  room = b .room;
-}
-
-pub grew-as : {p r : Page} {l m : List ℕ} → l ≡ m → Grew p r l → Grew p r m
-grew-as {p} {r} e a = subst (λ l. Grew p r l) e a
-
--- from the empty page on
-pub shows : {p r : Page} {l : List ℕ} → p .length ≡ 0 → Grew p r l → r .length ≤ 512 → Shows r l
-shows {p} {r} {l} z a h = record { is = a .is ∙ ap (λ k. take k (p .bytes) ++ l) z; fits = (omega (arith, a .room), sym (length-take-le (r .length) (r .bytes) (omega (arith, a .room)))) }
-
-pub grew-none : (p : Page) → length (p .bytes) ≡ 512 → Grew p p []
-grew-none p h = record { is = sym (append-nil (text p)); long = omega arith; room = h }
+-- from the blank page on
+pub shows : {p r : Page} {l : List ℕ} → Blank p → Grew p r l → r .length ≤ 512 → Shows r l
+shows {p} {r} {l} z a h =
+    let e = a .ends in
+    let k : r .length ≡ length l = omega (arith, z .none) in
+    let w : r .bytes ≡ l ++ drop (length l) (p .bytes) = laid-whole (subst (λ b. Laid (p .bytes) (r .bytes) b (r .length) l) (z .none) a) (omega (arith, z .room)) in
+    record {
+      is = ap₂ take k w ∙ take-append-seam l (drop (length l) (p .bytes));
+      fits = (omega (arith, a .long, z .room), sym (length-take-le (r .length) (r .bytes) (omega (arith, a .long, z .room))));
+    }
 
 -- a line has as many bytes as its words, and at most 21 more
 pub line-short : (what : List ℕ) (n : ℕ) → length (line what n) ≤ length what + 21
@@ -99,7 +79,7 @@ state-short s b = omega (arith, length-append (numeral s) (cond b yesText noText
 -- one state more
 pub one-state : {p q r : Page} (s x : ℕ) {b : Bool} → b ≡ has x s → Grew p q (lines s x) → Grew q r (numeral s ++ cond b yesText noText) → Grew p r (lines (s + 1) x)
 unfolding lines
-one-state {p} {q} {r} s x e a h = rw (add-one s) (subst (λ b. Grew p r (lines s x ++ (numeral s ++ cond b yesText noText))) e (grew-after a h))
+one-state {p} {q} {r} s x e a h = rw (add-one s) (subst (λ b. Grew p r (lines s x ++ (numeral s ++ cond b yesText noText))) e (laid-after a h))
 
 pub shows-as : {p : Page} {l m : List ℕ} → l ≡ m → Shows p l → Shows p m
 shows-as {p} e a = subst (Shows p) e a

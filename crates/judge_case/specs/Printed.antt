@@ -1,5 +1,5 @@
 -- What the program prints, as bytes: docs/SPECIFICATION.md, section 9.
-use Prim.Native.Nat.{ℕ, zero, suc, _+_, _^_}
+use Prim.Native.Nat.{ℕ, zero, suc, _^_}
 use mathlib.Core.Bool.{cond}
 use mathlib.Core.List.{List, [], _∷_, _++_}
 use mathlib.Core.Path.{_≡_}
@@ -8,6 +8,7 @@ use lib.ListN.{length, take}
 use Rattle.io.specs.Counts.{Counts}
 use Rattle.io.specs.Digits.{digits}
 use Rattle.flc.specs.Sets.{first, has}
+use Rattle.case_model.specs.Areas.{Laid}
 use Rattle.case_model.specs.Case.{read}
 use Rattle.case_model.specs.Replies.{Reply, answers, refuses}
 use Rattle.case_model.specs.Judging.{Verdict, judging}
@@ -67,7 +68,10 @@ pub record Shows (p : Page) (l : List ℕ) : Type 0 where
   pub fits : Counts (p .length) (p .bytes)
 
 -- the page r is p with the text l more
-pub record Grew (p r : Page) (l : List ℕ) : Type 0 where
-  pub is : text r ≡ text p ++ l
-  pub long : r .length ≡ p .length + length l
-  pub room : length (r .bytes) ≡ 512
+abbrev pub Grew : Page → Page → List ℕ → Type 0
+Grew p r l = Laid (p .bytes) (r .bytes) (p .length) (r .length) l
+
+-- a page without text
+pub record Blank (p : Page) : Type 0 where
+  pub none : p .length ≡ 0
+  pub room : length (p .bytes) ≡ 512

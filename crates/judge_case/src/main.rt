@@ -5,11 +5,11 @@ ghost use mathlib.Core.Path.{_≡_};
 ghost use Prim.Native.Nat.{_+_, _≤_, _<_};
 ghost use lib.ListN.{length};
 ghost use Rattle.flc.specs.Sets.{setOf, has};
-ghost use Rattle.case_model.specs.Rows.{mostStates};
+ghost use Rattle.case_model.specs.Limits.{mostStates};
 ghost use Rattle.case_model.specs.Replies.{Reply};
-ghost use Rattle.case_file.specs.Told.{number};
-ghost use Rattle.judge.specs.Told.{answer};
-ghost use Rattle.judge_case.specs.Printed.{yesText, noText, numeral, line, printed, page, Shows, Grew};
+ghost use Rattle.case_file.specs.EnumNumbers.{number};
+ghost use Rattle.judge.specs.EnumNumbers.{answer};
+ghost use Rattle.judge_case.specs.Printed.{yesText, noText, numeral, line, printed, page, Shows, Grew, Blank};
 use case_file::Case;
 use case_file::Refusal;
 use case_reader::state_count;
@@ -43,7 +43,7 @@ struct Page {
 
 impl Page {
     fn new() -> Page
-        ensures { λ r. ⌜ r .length ≡ 0 ⌝ }
+        ensures { λ r. ⌜ Blank r ⌝ }
     {
         Page {
             bytes: [0u8; 512],

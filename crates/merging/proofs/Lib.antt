@@ -1,4 +1,3 @@
-pub mod Laying
 pub mod Relations
 pub mod MergedBytes
 pub mod Replying

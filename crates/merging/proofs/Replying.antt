@@ -10,20 +10,21 @@ use lib.Dec.{eqb, ltb}
 use lib.ListN.{length, getD}
 use Rattle.flc.specs.Sets.{has}
 use Rattle.flc.specs.Bisimulation.{alike}
+use Rattle.case_model.specs.Areas.{Laid}
 use Rattle.case_model.specs.Case.{read, table}
-use Rattle.case_model.specs.Rows.{Found, sound, refused, _orElse_, unless, mostStates, refusals}
-use Rattle.case_model.specs.Replies.{answers, refuses}
-use Rattle.case_model.specs.Merging.{counted, written, merging}
+use Rattle.case_model.specs.Rows.{Found, sound, refused, _orElse_, unless, refusals}
+use Rattle.case_model.specs.Limits.{mostStates, standard}
+use Rattle.case_model.specs.Replies.{answers, refuses, counted, written}
+use Rattle.case_model.specs.Merging.{merging}
+use Rattle.case_model.proofs.Laying.{laid-whole}
 use Rattle.case_model.proofs.Tests.{and-l, and-r}
 use Rattle.case_model.proofs.Valid.{accepted-valid}
 use Rattle.bisimilarity.specs.Graphs.{tableOf, Drawn}
 use Rattle.bisimilarity.specs.Relations.{related, Rows}
 use Rattle.bisimilarity.specs.declared.graph.Graph.{Graph}
 use Rattle.bisimilarity.proofs.Refining.{rows-alike}
-use Rattle.merging.specs.Laid.{Laid}
 use Rattle.merging.specs.Merged.{mergedFile, fitting}
 use Rattle.merging.specs.declared.rows.Pair.{Pair}
-use Rattle.merging.proofs.Laying.{laid-whole}
 
 -- ---- room or none
 module _ (f out : List ℕ) (p : Pair) (all : ℕ) (is : all ≡ length (mergedFile f p)) where
@@ -52,18 +53,18 @@ both-out true true r q e = cc
 both-out true false r q e = refl
 both-out false b r q e = refl
 
-pub merging-refused : (f : List ℕ) (s t room k p : ℕ) → refusals f ≡ refused k p → merging f s t room ≡ refuses k p
+pub merging-refused : (f : List ℕ) (s t room k p : ℕ) → refusals standard f ≡ refused k p → merging f s t room ≡ refuses k p
 unfolding merging
 merging-refused f s t room k p e = rw e
 
-module _ (f : List ℕ) (s t room n : ℕ) (ok : refusals f ≡ sound) (states : n ≡ length (read f .labels)) where
+module _ (f : List ℕ) (s t room n : ℕ) (ok : refusals standard f ≡ sound) (states : n ≡ length (read f .labels)) where
   pub merging-beyond : (ltb s n && ltb t n) ≡ false → merging f s t room ≡ refuses 8 0
   unfolding merging
   merging-beyond e = rw (ok, ← states, both-out (ltb s n) (ltb t n) _ _ e)
 
   module _ (i : (ltb s n && ltb t n) ≡ true) where
     pub inside : (s < n) × (t < n) × (n ≤ mostStates)
-    inside = (ltb-true s n (search and-l), ltb-true t n (search and-r), omega (arith, states, accepted-valid f ok .few))
+    inside = (ltb-true s n (search and-l), ltb-true t n (search and-r), omega (arith, states, accepted-valid standard f ok .table .few))
 
     -- what the row of s says of t
     module _ {g : Graph} {rows : List ℕ} (d : Drawn (read f) g) (r : Rows (g .states) rows (alike (tableOf g))) {b : Bool} (m : b ≡ has (getD rows s 0) t) where

@@ -3,21 +3,22 @@ use Prim.Native.Nat.{ℕ, suc, _+_, _*_, _-_, _≤_, _<_}
 use mathlib.Core.List.{List}
 use mathlib.Core.Path.{_≡_}
 use lib.ListN.{length}
+use Rattle.case_model.specs.Limits.{sections, standard}
 use Rattle.case_model.specs.Bytes.{size}
 use Rattle.case_model.specs.Case.{read, write}
 use Rattle.case_model.specs.Rows.{sound, refusals}
-use Rattle.case_model.specs.Replies.{Reply, replied}
-use Rattle.case_model.specs.Merging.{movedSteps, inOrder, merge, row13}
-use Rattle.merging.specs.Relation.{relation, Marks}
-use Rattle.merging.specs.declared.lay.Sizes.{Sizes}
+use Rattle.case_model.specs.Replies.{Reply, replied, row13}
+use Rattle.case_model.specs.Merging.{movedSteps, inOrder, merge}
+use Rattle.case_reader.specs.StepRows.{relation, StepRows}
+use Rattle.merging.specs.declared.merging.Sizes.{Sizes}
 use Rattle.merging.specs.declared.rows.Pair.{Pair}
 
 abbrev pub total : Sizes → ℕ
-total z = 12 + z .labels + z .steps + z .rule
+total z = 4 * sections + z .labels + z .steps + z .rule
 
 -- an accepted file of n states, of which one is kept and one removed; n removes none
 pub record Named (f : List ℕ) (p : Pair) (n : ℕ) : Type 0 where
-  pub accepted : refusals f ≡ sound
+  pub accepted : refusals standard f ≡ sound
   pub states : n ≡ length (read f .labels)
   pub kept : p .kept < n
   pub removed : p .removed ≤ n
@@ -25,7 +26,7 @@ pub record Named (f : List ℕ) (p : Pair) (n : ℕ) : Type 0 where
 -- the merged case has the steps of the rows, and sections of such lengths
 pub record Measured (f : List ℕ) (p : Pair) (rows : List ℕ) (z : Sizes) : Type 0 where
   pub named : Named f p (length (read f .labels))
-  pub marks : Marks (movedSteps (p .kept) (p .removed) (read f .steps)) rows
+  pub marks : StepRows (movedSteps (p .kept) (p .removed) (read f .steps)) rows
   pub labels : z .labels ≡ p .removed + (length (read f .labels) - suc (p .removed))
   pub steps : z .steps ≡ 3 * length (inOrder 2048 (relation rows))
   pub rule : z .rule ≡ size f 2

@@ -1,25 +1,20 @@
--- A step relation as 128 rows of masks: bit t of row 8s + a is the step (s, a, t).
-use Prim.Native.Nat.{ℕ, _+_, _*_, _/_, _%_, _^_, _<_}
-use mathlib.Core.Bool.{Bool, cond}
+-- The triples by number, and what one of them adds to a list of steps, or to the rows of the merged case.
+use Prim.Native.Nat.{ℕ, _/_, _%_}
+use mathlib.Core.Bool.{Bool, _&&_, not, cond}
 use mathlib.Core.List.{List, [], _∷_}
-use mathlib.Core.Path.{_≡_}
-use lib.Bits.{bitOr}
-use lib.ListN.{length, getD, set}
-use Rattle.flc.specs.Sets.{has}
-use Rattle.case_model.specs.Case.{Triple, listed}
+use lib.Dec.{eqb}
+use Rattle.case_model.specs.Kinds.{Triple}
+use Rattle.case_model.specs.Merging.{moved}
+use Rattle.case_reader.specs.StepRows.{marked}
 
-unfoldable pub relation : List ℕ → ℕ → ℕ → ℕ → Bool
-relation rows s a t = has (getD rows (8 * s + a) 0) t
+-- the triple that has the number x
+abbrev pub numbered : ℕ → Triple
+numbered x = (x / 128, x / 16 % 8, x % 16)
 
--- the rows with one step more
-unfoldable pub marked : List ℕ → ℕ → ℕ → ℕ → List ℕ
-marked rows s a t = set rows (8 * s + a) (bitOr (getD rows (8 * s + a) 0) (2 ^ t))
-
--- the rows hold just the steps listed
-pub record Marks (l : List Triple) (rows : List ℕ) : Type 0 where
-  pub long : length rows ≡ 128
-  pub is : (s a t : ℕ) → a < 8 → t < 16 → relation rows s a t ≡ listed l s a t
-
--- the triple that has the number x, if it is a step
+-- that triple, if it is a step
 abbrev pub chosen : Bool → ℕ → List Triple
-chosen is x = cond is ((x / 128, x / 16 % 8, x % 16) ∷ []) []
+chosen is x = cond is (numbered x ∷ []) []
+
+-- the rows with it, renumbered, if it is a step and does not leave the removed state
+abbrev pub carried : ℕ → ℕ → Bool → Triple → List ℕ → List ℕ
+carried k r is x rows = cond (is && not (eqb (x .0) r)) (marked rows (moved k r (x .0), x .1, moved k r (x .2))) rows

@@ -1,17 +1,16 @@
-// The step relation of the merged case, as 128 rows of masks: bit t of row 8s + a is the step (s, a, t).
+// The step relation of the merged case, as the rows of case_reader's table: bit t of row 8s + a is the step (s, a, t).
 ghost use mathlib.Core.Path.{_≡_};
-ghost use mathlib.Core.Bool.{cond};
 ghost use Prim.Native.Nat.{_+_, _*_, _/_, _%_, _≤_, _<_, min, max};
-ghost use lib.Dec.{eqb};
 ghost use lib.ListN.{length};
-ghost use Rattle.case_model.specs.Case.{read, flat};
+ghost use Rattle.case_model.specs.Areas.{Laid};
+ghost use Rattle.case_model.specs.Case.{flat};
 ghost use Rattle.case_model.specs.Merging.{moved, movedSteps, inOrder};
-ghost use Rattle.case_model.proofs.Valid.{Valid};
-ghost use Rattle.merging.specs.Laid.{Laid};
-ghost use Rattle.merging.specs.Relation.{relation, marked, Marks, chosen};
+ghost use Rattle.case_reader.specs.StepRows.{relation, StepRows};
+ghost use Rattle.merging.specs.Relation.{numbered, chosen, carried};
+use bisimilarity::member;
 use case_reader::Triple;
-use case_reader::step;
-use case_reader::step_count;
+use case_reader::mark;
+use case_writer::put_triple;
 
 // Two states: the lower is kept, the higher removed.
 pub(crate) struct Pair {
@@ -47,48 +46,43 @@ impl Pair {
     }
 }
 
-fn mark(rows: [u16; 128], s: usize, a: usize, t: usize) -> [u16; 128]
-    requires { ⌜ (s < 16) × (a < 8) × (t < 16) ⌝ }
-    ensures { λ r. ⌜ r ≡ marked rows s a t ⌝ }
+// The triple with the number x.
+fn numbered(x: usize) -> Triple
+    ensures { λ r. ⌜ (r .0 ≡ x / 128) × (r .1 ≡ x / 16 % 8) × (r .2 ≡ x % 16) ⌝ }
 {
-    let at = 8 * s + a;
-    let mut next = rows;
-    next[at] = rows[at] | (1u16 << t);
-    next
+    Triple(x / 128, x / 16 % 8, x % 16)
 }
 
-// Marks a step of the file, renumbered, unless it leaves the removed state.
-fn carry(rows: [u16; 128], pair: Pair, x: Triple) -> [u16; 128]
-    requires { ⌜ (pair .kept < 16) × (x .0 < 16) × (x .1 < 8) × (x .2 < 16) ⌝ }
-    ensures { λ r. ⌜ r ≡ cond (eqb (x .0) (pair .removed)) rows (marked rows (moved (pair .kept) (pair .removed) (x .0)) (x .1) (moved (pair .kept) (pair .removed) (x .2))) ⌝ }
-{
-    if x.0 == pair.removed {
-        return rows;
-    }
-    mark(rows, pair.moved(x.0), x.1, pair.moved(x.2))
-}
-
-// The steps of the merged case, marked from the last step of the file to the first.
-pub(crate) fn merged_rows(file: &[u8], pair: Pair) -> [u16; 128]
-    requires { ⌜ Valid (read (now file)) × (pair .kept < 16) ⌝ }
-    ensures { λ r. ⌜ Marks (movedSteps (pair .kept) (pair .removed) (read (now (file .entry)) .steps)) r ⌝ }
-{
-    let mut rows = [0u16; 128];
-    let mut i = step_count(file);
-    while 0 < i {
-        i -= 1;
-        let next = carry(rows, pair, step(file, i));
-        rows = next;
-    }
-    rows
-}
-
-// Is the triple with the number x a step?
+// Is it a step?
 fn is_step(rows: [u16; 128], x: usize) -> bool
     requires { ⌜ x < 2048 ⌝ }
     ensures { λ r. ⌜ r ≡ relation rows (x / 128) (x / 16 % 8) (x % 16) ⌝ }
 {
-    (rows[x / 16] >> (x % 16)) % 2 == 1
+    member(rows[x / 16], x % 16)
+}
+
+// Marks the triple with the number x, renumbered, if it is a step and does not leave the removed state.
+fn carry(is: bool, x: usize, pair: Pair, rows: [u16; 128]) -> [u16; 128]
+    ensures { λ r. ⌜ r ≡ carried (pair .kept) (pair .removed) is (numbered x) rows ⌝ }
+{
+    let t = numbered(x);
+    let stays = is & (t.0 != pair.removed);
+    if stays {
+        return mark(rows, Triple(pair.moved(t.0), t.1, pair.moved(t.2)));
+    }
+    rows
+}
+
+// The steps of the merged case, from those of the case.
+pub(crate) fn merged_rows(rows: [u16; 128], pair: Pair) -> [u16; 128]
+    ensures { λ r. ⌜ StepRows (movedSteps (pair .kept) (pair .removed) (inOrder 2048 (relation rows))) r ⌝ }
+{
+    let mut merged = [0u16; 128];
+    for x in 0..2048 {
+        let next = carry(is_step(rows, x), x, pair, merged);
+        merged = next;
+    }
+    merged
 }
 
 // How many steps there are.
@@ -108,10 +102,8 @@ fn put_step(is: bool, x: usize, out: &mut [u8], at: usize) -> usize
     ensures { λ r. ⌜ Laid (now (out .entry)) (now (out .exit)) at r (flat (chosen is x)) ⌝ }
 {
     if is {
-        out[at] = (x / 128) as u8;
-        out[at + 1] = (x / 16 % 8) as u8;
-        out[at + 2] = (x % 16) as u8;
-        return at + 3;
+        let t = numbered(x);
+        return put_triple(t.0, t.1, t.2, out, at);
     }
     at
 }

@@ -6,9 +6,10 @@ use mathlib.Core.List.{List, [], _∷_}
 use mathlib.Core.Path.{_≡_, refl, ap, ap₂, _∙_}
 use native.Mathlib.Omega.{arith}
 use lib.ListN.{length, getD}
-use Rattle.case_model.specs.Case.{Triple, Case, at}
+use Rattle.case_model.specs.Case.{Case, at}
+use Rattle.case_model.specs.Kinds.{Triple}
 use Rattle.case_model.specs.Rewriting.{Change, nothing, swap, lawsAt, change, isThere}
-use Rattle.case_model.proofs.Valid.{Valid}
+use Rattle.case_model.specs.Valid.{ValidRule}
 use Rattle.case_model.proofs.NineLaws.{Brings, the-fit, brings}
 
 -- the third of three
@@ -33,7 +34,7 @@ no-law j t x y (suc (suc (suc (suc (suc (suc (suc (suc zero)))))))) a b c d e f 
 no-law j t x y (suc (suc (suc (suc (suc (suc (suc (suc (suc zero))))))))) a b c d e f g h i = absurd (i refl)
 no-law j t x y (suc (suc (suc (suc (suc (suc (suc (suc (suc (suc law)))))))))) a b c d e f g h i = refl
 
-pub no-node : {c : Case} → Valid c → (law j : ℕ) → length (c .nodes) ≤ j → isThere (change (c .nodes) law j) ≡ false
+pub no-node : {c : Case} → ValidRule c → (law j : ℕ) → length (c .nodes) ≤ j → isThere (change (c .nodes) law j) ≡ false
 no-node {c} valid law j h = go (change (c .nodes) law j) (brings valid j law)
   where
     go : (e : Change) → Brings c j e → isThere e ≡ false

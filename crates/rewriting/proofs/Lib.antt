@@ -1,6 +1,4 @@
 pub mod Laws
-pub mod Files
-pub mod Fronts
 pub mod Renewed
-pub mod Areas
+pub mod NewFile
 pub mod Outcomes

@@ -1,15 +1,16 @@
 -- What rewriting replies, by the rows found and by the shape found; and when the plan is right.
 -- By the rows of the table of refusals, in rising number.
-use Prim.Native.Nat.{ℕ, _+_, _*_, _≤_, _<_}
+use Prim.Native.Nat.{ℕ, _+_, _≤_, _<_}
 use mathlib.Core.Bool.{true, false}
 use mathlib.Core.List.{List}
 use mathlib.Core.Path.{_≡_, sym, ap, _∙_}
 use native.Mathlib.Omega.{arith}
 use borrow.Author.Tests.{le-leb, lt-leb}
 use lib.ListN.{length}
-use Rattle.case_model.specs.Bytes.{byteAt, offset}
+use Rattle.case_model.specs.Bytes.{byteAt}
 use Rattle.case_model.specs.Case.{read, write}
-use Rattle.case_model.specs.Rows.{sound, refused, mostNodes, refusals}
+use Rattle.case_model.specs.Rows.{sound, refused, refusals}
+use Rattle.case_model.specs.Limits.{mostNodes, standard}
 use Rattle.case_model.specs.Replies.{answers, refuses}
 use Rattle.case_model.specs.Rewriting.{swap, change, isThere, rewrite, rewriting}
 use Rattle.case_model.proofs.Valid.{accepted-valid}
@@ -18,29 +19,31 @@ use Rattle.rewriting.specs.Plans.{renewed, Planned}
 use Rattle.rewriting.specs.declared.shapes.Shape.{Shape}
 use Rattle.rewriting.specs.declared.plan.Plan.{Plan}
 use Rattle.rewriting.proofs.Laws.{no-node}
-use Rattle.rewriting.proofs.Renewed.{length-new-file, placed-nodes}
+use Rattle.rewriting.proofs.Renewed.{placed-nodes}
 
--- an accepted file with m nodes
-pub record Taken (f : List ℕ) (m : ℕ) : Type 0 where
-  pub rows : refusals f ≡ sound
+-- an accepted file, whose case has m nodes
+pub record AcceptedCase (f : List ℕ) (m : ℕ) : Type 0 where
+  pub rows : refusals standard f ≡ sound
   pub nodes : m ≡ length (read f .nodes)
   pub few : m ≤ mostNodes
 
-pub taken : {f : List ℕ} {m : ℕ} → refusals f ≡ sound → m ≡ length (read f .nodes) → Taken f m
-taken {f} s n = record { rows = s; nodes = n; few = omega (arith, accepted-valid f s .most) }
+pub accepted-case : {f : List ℕ} {m : ℕ} → refusals standard f ≡ sound → m ≡ length (read f .nodes) → AcceptedCase f m
+accepted-case {f} s n = record { rows = s; nodes = n; few = omega (arith, accepted-valid standard f s .rule .most) }
 
 -- ---- rows 1 to 7, and 11
-pub rewriting-refused : (f : List ℕ) (law j room k p : ℕ) → refusals f ≡ refused k p → rewriting f law j room ≡ refuses k p
+pub rewriting-refused : (f : List ℕ) (law j room k p : ℕ) → refusals standard f ≡ refused k p → rewriting f law j room ≡ refuses k p
 unfolding rewriting
 rewriting-refused f law j room k p e = rw e
 
-rewriting-nothing : (f : List ℕ) (law j room : ℕ) → refusals f ≡ sound → isThere (change (read f .nodes) law j) ≡ false → rewriting f law j room ≡ refuses 11 0
+rewriting-nothing : (f : List ℕ) (law j room : ℕ) → refusals standard f ≡ sound → isThere (change (read f .nodes) law j) ≡ false
+    → rewriting f law j room ≡ refuses 11 0
 unfolding rewriting
 rewriting-nothing f law j room a e = rw (a, e)
 
-module _ (f : List ℕ) (law j m : ℕ) (t : Taken f m) where
+module _ (f : List ℕ) (law j m : ℕ) (t : AcceptedCase f m) where
   pub rewriting-beyond : m ≤ j → (room : ℕ) → rewriting f law j room ≡ refuses 11 0
-  rewriting-beyond h room = rewriting-nothing f law j room (t .rows) (no-node (accepted-valid f (t .rows)) law j (omega (arith, t .nodes)))
+  rewriting-beyond h room =
+      rewriting-nothing f law j room (t .rows) (no-node (accepted-valid standard f (t .rows) .rule) law j (omega (arith, t .nodes)))
 
   module _ (h : j < m) (s : Shape) (does : Does j s (change (read f .nodes) law j)) where
     pub rewriting-nowhere : s .there ≡ false → (room : ℕ) → rewriting f law j room ≡ refuses 11 0
@@ -50,31 +53,28 @@ module _ (f : List ℕ) (law j m : ℕ) (t : Taken f m) where
       pub brought : change (read f .nodes) law j ≡ swap (placed s) (named j s)
       brought = sym (does .is) ∙ rw there
 
+      -- how many nodes there are then
+      pub count : length (rewrite (read f) j (swap (placed s) (named j s)) .nodes) ≡ m + s .added
+      count = omega (arith, t .nodes, placed-nodes (read f) j s (does .few) (named j s) (omega (arith, t .nodes)))
+
       -- ---- row 12
       pub rewriting-many : mostNodes < m + s .added → (room : ℕ) → rewriting f law j room ≡ refuses 12 0
       unfolding rewriting
-      rewriting-many k room = rw (t .rows, brought, lt-leb (length (rewrite (read f) j (swap (placed s) (named j s)) .nodes)) mostNodes (omega (arith, t .nodes, placed-nodes (read f) j s (does .few) (named j s) (omega (arith, t .nodes)))))
+      rewriting-many k room =
+          rw (t .rows, brought, lt-leb (length (rewrite (read f) j (swap (placed s) (named j s)) .nodes)) mostNodes (omega (arith, count)))
 
       -- ---- the plan
-      abbrev pub planned : ((i : ℕ) → byteAt f i < 256) → m + s .added ≤ mostNodes → (rule : ℕ) → rule ≡ offset f 2
-          → Planned f (record { shape = s; j = j; rule = rule; nodes = m + s .added })
-      planned bytes few rule q = record {
-        accepted = t .rows;
-        bytes = bytes;
-        law = law;
-        is = brought;
-        added = does .few;
-        rule = q;
-        nodes = omega (arith, t .nodes, placed-nodes (read f) j s (does .few) (named j s) (omega (arith, t .nodes)));
-        few = few;
-      }
+      abbrev pub planned : ((i : ℕ) → byteAt f i < 256) → m + s .added ≤ mostNodes → Planned f (record { shape = s; j = j; nodes = m + s .added })
+      planned bytes few = record { accepted = t .rows; bytes = bytes; law = law; is = brought; added = does .few; nodes = sym count; few = few }
 
 -- ---- row 13, or the new file
 module _ {f : List ℕ} {p : Plan} (h : Planned f p) where
-  pub rewriting-short : (room : ℕ) → room < p .rule + 3 * p .nodes + 1 → rewriting f (h .law) (p .j) room ≡ refuses 13 0
+  pub rewriting-short : (room : ℕ) → room < length (write (renewed f p)) → rewriting f (h .law) (p .j) room ≡ refuses 13 0
   unfolding rewriting
-  rewriting-short room k = rw (h .accepted, h .is, le-leb (length (renewed f p .nodes)) mostNodes (omega (arith, h .nodes, h .few)), lt-leb (length (write (renewed f p))) room (omega (arith, length-new-file h)))
+  rewriting-short room k =
+      rw (h .accepted, h .is, le-leb (length (renewed f p .nodes)) mostNodes (omega (arith, h .nodes, h .few)), lt-leb (length (write (renewed f p))) room k)
 
-  pub rewriting-fits : (room : ℕ) → p .rule + 3 * p .nodes + 1 ≤ room → rewriting f (h .law) (p .j) room ≡ answers (write (renewed f p))
+  pub rewriting-fits : (room : ℕ) → length (write (renewed f p)) ≤ room → rewriting f (h .law) (p .j) room ≡ answers (write (renewed f p))
   unfolding rewriting
-  rewriting-fits room k = rw (h .accepted, h .is, le-leb (length (renewed f p .nodes)) mostNodes (omega (arith, h .nodes, h .few)), le-leb (length (write (renewed f p))) room (omega (arith, length-new-file h)))
+  rewriting-fits room k =
+      rw (h .accepted, h .is, le-leb (length (renewed f p .nodes)) mostNodes (omega (arith, h .nodes, h .few)), le-leb (length (write (renewed f p))) room k)

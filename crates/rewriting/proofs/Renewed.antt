@@ -1,29 +1,33 @@
--- The case that a right plan makes: it is valid and written in bytes, and its nodes are the old ones renamed, with those put in between.
--- By the laws of rewriting; the nodes by their places in the list.
-use Prim.Native.Nat.{ℕ, suc, _+_, _-_, _*_, _/_, _%_, _≤_, _<_}
+-- The case that a right plan makes: it is valid, its nodes are triples of bytes, and they are the old ones renamed, with those put in between.
+-- By the laws of rewriting; the nodes by their places in the list; bytes because a valid case is written in bytes, and reading gives it back.
+use Prim.Native.Nat.{ℕ, suc, _+_, _-_, _*_, _/_, _≤_, _<_}
 use mathlib.Core.List.{List, [], _∷_}
-use mathlib.Core.Path.{_≡_, refl, sym, ap, _∙_, subst}
+use mathlib.Core.Path.{_≡_, sym, ap, _∙_, subst}
+use native.Mathlib.Decide.{decLt}
 use native.Mathlib.Omega.{arith}
 use lib.ListN.{length}
 use lib.Seq.{getD-take, length-take-le}
-use Rattle.case_model.specs.Bytes.{byteAt, offset}
-use Rattle.case_model.specs.Case.{Triple, Case, read, write, at}
+use Rattle.case_model.specs.Limits.{standard}
+use Rattle.case_model.specs.Bytes.{byteAt, offset, size, section}
+use Rattle.case_model.specs.Case.{Case, tripleAt, read, write, at}
+use Rattle.case_model.specs.Kinds.{Triple}
 use Rattle.case_model.specs.Rewriting.{swap, renamed, rewrite}
-use Rattle.case_model.proofs.Valid.{Valid, accepted-valid, accepted-pairs}
-use Rattle.case_model.proofs.Sections.{within}
-use Rattle.case_model.proofs.Codec.{length-write, size-rule}
+use Rattle.case_model.specs.Valid.{Valid}
+use Rattle.case_model.proofs.Lists.{length-listOf, getD-listOf, getD-listOf-end}
+use Rattle.case_model.proofs.Valid.{accepted-valid}
+use Rattle.case_model.proofs.Codec.{read-write}
 use Rattle.case_model.proofs.Written.{write-bytes}
 use Rattle.case_model.proofs.Swapped.{Fit, length-new, new-low, new-mid, new-high}
 use Rattle.case_model.proofs.NineLaws.{Brings, the-fit, brings}
-use Rattle.case_model.proofs.Rewritten.{rewrite-valid}
+use Rattle.case_model.proofs.Rewritten.{rewritten-valid}
 use Rattle.case_reader.specs.Read.{triple}
+use Rattle.case_reader.specs.declared.parts.Triple as code
 use Rattle.rewriting.specs.Shapes.{placed, named}
-use Rattle.rewriting.specs.Plans.{part, renewed, Planned}
+use Rattle.rewriting.specs.Plans.{ByteTriple, renewed, Planned}
 use Rattle.rewriting.specs.declared.shapes.Shape.{Shape}
 use Rattle.rewriting.specs.declared.plan.Plan.{Plan}
-use Rattle.rewriting.proofs.Files as files
-use Rattle.rewriting.proofs.Fronts.{front}
 
+-- ---- the nodes put in
 abbrev pub three : Shape → List Triple
 three s = triple (s .first) ∷ triple (s .second) ∷ triple (s .third) ∷ []
 
@@ -37,16 +41,51 @@ pub placed-nodes : (c : Case) (j : ℕ) (s : Shape) → s .added ≤ 2 → (g : 
     → length (rewrite c j (swap (placed s) g) .nodes) ≡ length (c .nodes) + s .added
 placed-nodes c j s h g w = omega (arith, placed-length s h, length-new c j (placed s) g w)
 
+-- ---- what is read from bytes
+labels-small : (f : List ℕ) → ((i : ℕ) → byteAt f i < 256) → (i : ℕ) → byteAt (section f 0) i < 256
+unfolding section
+labels-small f h i = elim (decLt i (size f 0)) [
+  | yes l ↦ rw (getD-listOf (size f 0) (λ i. byteAt f (offset f 0 + i)) 0 i l) (h (offset f 0 + i))
+  | no l ↦ rw (getD-listOf-end (size f 0) (λ i. byteAt f (offset f 0 + i)) 0 i (omega arith)) (omega arith)
+]
+
+node-small : (f : List ℕ) → ((i : ℕ) → byteAt f i < 256) → (i : ℕ) → i < length (read f .nodes)
+    → (t : code.Triple) → triple t ≡ at (read f .nodes) i → ByteTriple t
+node-small f h i l t e =
+    let o : ℕ = offset f 2 + 3 * i in
+    let g : ℕ → Triple = λ i. tripleAt f (offset f 2 + 3 * i) in
+    let q : triple t ≡ tripleAt f o = e ∙ getD-listOf (size f 2 / 3) g (0, 0, 0) i (omega (arith, length-listOf (size f 2 / 3) g)) in
+    record {
+      first = omega (arith, ap (λ (t : Triple). t .0) q, h o);
+      second = omega (arith, ap (λ (t : Triple). t .1) q, h (o + 1));
+      third = omega (arith, ap (λ (t : Triple). t .2) q, h (o + 2));
+    }
+
 -- ---- a right plan
 module _ {f : List ℕ} {p : Plan} (h : Planned f p) where
+  old : Valid standard (read f)
+  old = accepted-valid standard f (h .accepted)
+
   fit : Fit (read f) (p .j) (placed (p .shape)) (named (p .j) (p .shape))
-  fit = the-fit (subst (Brings (read f) (p .j)) (h .is) (brings (accepted-valid f (h .accepted)) (p .j) (h .law)))
+  fit = the-fit (subst (Brings (read f) (p .j)) (h .is) (brings (old .rule) (p .j) (h .law)))
 
-  pub valid : Valid (renewed f p)
-  valid = rewrite-valid (accepted-valid f (h .accepted)) (h .law) (p .j) (h .is) (omega (arith, h .nodes, h .few))
+  pub valid : Valid standard (renewed f p)
+  valid = rewritten-valid old (h .law) (p .j) (h .is) (omega (arith, h .nodes, h .few))
 
-  pub bytes : (i : ℕ) → byteAt (write (renewed f p)) i < 256
-  bytes = write-bytes (renewed f p) valid (unfold rewrite in files.labels-small f (h .bytes))
+  bytes : (i : ℕ) → byteAt (write (renewed f p)) i < 256
+  bytes = write-bytes (renewed f p) valid (unfold rewrite in labels-small f (h .bytes))
+
+  pub new-small : (i : ℕ) → i < p .nodes → (t : code.Triple) → triple t ≡ at (renewed f p .nodes) i → ByteTriple t
+  new-small i l =
+      subst (λ (c : Case). (t : code.Triple) → triple t ≡ at (c .nodes) i → ByteTriple t) (read-write (renewed f p))
+      (node-small (write (renewed f p)) bytes i (subst (λ (c : Case). i < length (c .nodes)) (sym (read-write (renewed f p))) (omega (arith, h .nodes))))
+
+  pub root-small : renewed f p .root < 256
+  root-small = omega (arith, valid .rule .root, valid .rule .most)
+
+  pub new-root : (x : ℕ) → x ≡ read f .root → named (p .j) (p .shape) x ≡ renewed f p .root
+  unfolding rewrite
+  new-root x e = ap (named (p .j) (p .shape)) e
 
   -- node i, by where it stands
   pub node-low : (i : ℕ) → i < p .j → at (renewed f p .nodes) i ≡ renamed (named (p .j) (p .shape)) (at (read f .nodes) i)
@@ -57,44 +96,9 @@ module _ {f : List ℕ} {p : Plan} (h : Planned f p) where
       ap (at (renewed f p .nodes)) (omega arith)
       ∙ new-mid (read f) (p .j) (placed (p .shape)) (named (p .j) (p .shape)) (fit .within) (i - p .j) (omega (arith, placed-length (p .shape) (h .added)))
 
-  pub node-high : (i : ℕ) → p .j + p .shape .added < i → at (renewed f p .nodes) i ≡ renamed (named (p .j) (p .shape)) (at (read f .nodes) (i - p .shape .added))
+  pub node-high : (i : ℕ) → p .j + p .shape .added < i
+      → at (renewed f p .nodes) i ≡ renamed (named (p .j) (p .shape)) (at (read f .nodes) (i - p .shape .added))
   node-high i k =
       let n = placed-length (p .shape) (h .added) in
       ap (at (renewed f p .nodes)) (omega arith)
       ∙ new-high (read f) (p .j) (placed (p .shape)) (named (p .j) (p .shape)) (fit .within) (i - p .shape .added) (omega arith)
-
-  -- where the nodes stand, in both files
-  pub rule-at : p .rule ≡ offset (write (renewed f p)) 2
-  unfolding rewrite
-  rule-at = h .rule ∙ files.accepted-stands f (h .accepted) .nodes-at ∙ sym (files.written-stands (renewed f p) .nodes-at)
-
-  pub length-new-file : length (write (renewed f p)) ≡ p .rule + 3 * p .nodes + 1
-  length-new-file = omega (arith, length-write (renewed f p), rule-at, files.written-stands (renewed f p) .nodes-at, h .nodes)
-
-  pub in-file : p .rule ≤ length f
-  in-file = omega (arith, h .rule, within f (accepted-pairs f (h .accepted)) 2 (omega arith))
-
-  -- ---- the bytes
-  pub front-same : (i : ℕ) → i < p .rule → (i ≡ 10 → ⊥) → (i ≡ 11 → ⊥) → byteAt f i ≡ byteAt (write (renewed f p)) i
-  unfolding rewrite
-  front-same i l = front f (h .accepted) (h .bytes) (renewed f p) bytes refl refl i (omega (arith, h .rule))
-
-  size-bytes : (3 * p .nodes + 1) % 256 + 256 * ((3 * p .nodes + 1) / 256) ≡ byteAt (write (renewed f p)) 10 + 256 * byteAt (write (renewed f p)) 11
-  size-bytes = omega (arith, size-rule (renewed f p), h .nodes)
-
-  pub size-low : (3 * p .nodes + 1) % 256 ≡ byteAt (write (renewed f p)) 10
-  size-low = omega (arith, size-bytes, bytes 10, bytes 11)
-
-  pub size-high : (3 * p .nodes + 1) / 256 ≡ byteAt (write (renewed f p)) 11
-  size-high = omega (arith, size-bytes, bytes 10, bytes 11)
-
-  pub node-byte : (i : ℕ) → p .rule ≤ i → (i - p .rule) / 3 < p .nodes
-      → part (at (renewed f p .nodes) ((i - p .rule) / 3)) ((i - p .rule) % 3) ≡ byteAt (write (renewed f p)) i
-  node-byte i l k =
-      sym (files.node-byte (renewed f p) (i - p .rule) (omega (arith, h .nodes))) ∙ ap (byteAt (write (renewed f p))) (omega (arith, rule-at))
-
-  pub root-byte : (i : ℕ) → i < length (write (renewed f p)) → p .rule ≤ i → p .nodes ≤ (i - p .rule) / 3
-      → named (p .j) (p .shape) (read f .root) ≡ byteAt (write (renewed f p)) i
-  unfolding rewrite
-  root-byte i b l k =
-      sym (files.root-byte (renewed f p)) ∙ ap (byteAt (write (renewed f p))) (omega (arith, rule-at, length-new-file, h .nodes))

@@ -4,13 +4,13 @@ use mathlib.Core.Bool.{cond}
 use mathlib.Core.List.{List, [], _∷_}
 use mathlib.Core.Path.{_≡_}
 use lib.ListN.{take}
-use Rattle.case_model.specs.Case as model
+use Rattle.case_model.specs.Kinds as byTable
 use Rattle.case_model.specs.Rewriting.{Change, nothing, swap, redirected, shifted}
 use Rattle.case_reader.specs.Read.{triple}
 use Rattle.rewriting.specs.declared.shapes.Shape.{Shape}
 
 -- the nodes that are put in place of node j
-abbrev pub placed : Shape → List model.Triple
+abbrev pub placed : Shape → List byTable.Triple
 placed s = take (suc (s .added)) (triple (s .first) ∷ triple (s .second) ∷ triple (s .third) ∷ [])
 
 -- what a number that names node i becomes

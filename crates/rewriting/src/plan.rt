@@ -1,24 +1,33 @@
-// The file that a rewriting makes, byte by byte: the old file up to its nodes, then the new nodes and the root.
+// The file that a rewriting makes: the labels and the steps as they were, then the new nodes and the root.
 ghost use mathlib.Core.Path.{_≡_};
-ghost use mathlib.Core.List.{_++_};
-ghost use Prim.Native.Nat.{_≤_, _<_};
-ghost use lib.ListN.{length, drop};
-ghost use Rattle.case_model.specs.Bytes.{byteAt};
-ghost use Rattle.case_model.specs.Case.{at, write};
+ghost use Prim.Native.Nat.{_+_, _*_, _≤_, _<_};
+ghost use lib.ListN.{length};
+ghost use Rattle.case_model.specs.Areas.{Laid};
+ghost use Rattle.case_model.specs.Bytes.{offset, size, section};
+ghost use Rattle.case_model.specs.Case.{at, flat, write};
+ghost use Rattle.case_model.specs.Limits.{sections};
 ghost use Rattle.case_model.specs.Rewriting.{renamed};
 ghost use Rattle.case_reader.specs.Read.{triple};
 ghost use Rattle.rewriting.specs.Shapes.{placed, named};
-ghost use Rattle.rewriting.specs.Plans.{ByteTriple, part, Planned, renewed};
+ghost use Rattle.rewriting.specs.Plans.{ByteTriple, Planned, renewed, ruleBytes};
 use crate::shapes::Shape;
+use case_file::Case;
+use case_reader::Kind;
 use case_reader::Triple;
+use case_reader::kind_of;
 use case_reader::node;
 use case_reader::root;
+use case_reader::section_offset;
+use case_reader::section_size;
+use case_writer::put_byte;
+use case_writer::put_pairs;
+use case_writer::put_part;
+use case_writer::put_triple;
 
-// What is done at node j of a file whose nodes begin at `rule`, and how many nodes there are then.
+// What is done at node j of a file, and how many nodes there are then.
 pub(crate) struct Plan {
     pub(crate) shape: Shape,
     pub(crate) j: usize,
-    pub(crate) rule: usize,
     pub(crate) nodes: usize,
 }
 
@@ -44,13 +53,13 @@ fn rename(shape: Shape, j: usize, t: Triple) -> Triple
     requires { ⌜ ByteTriple t × (shape .added ≤ 2) ⌝ }
     ensures { λ r. ⌜ triple r ≡ renamed (named j shape) (triple t) ⌝ }
 {
-    if t.0 < 8 {
-        return t;
+    let kind = kind_of(t);
+    match kind {
+        Kind::Atom(_) => t,
+        Kind::Variable => t,
+        Kind::Two(_) => Triple(t.0, name(shape, j, t.1), name(shape, j, t.2)),
+        Kind::Binder(_) => Triple(t.0, t.1, name(shape, j, t.2)),
     }
-    if 10 < t.0 {
-        return Triple(t.0, t.1, name(shape, j, t.2));
-    }
-    Triple(t.0, name(shape, j, t.1), name(shape, j, t.2))
 }
 
 // Node i of those put in place of node j.
@@ -83,59 +92,60 @@ fn new_node(file: &[u8], plan: Plan, i: usize) -> Triple
     rename(shape, j, node(file, i - shape.added))
 }
 
-// Byte k of a triple.
-fn byte_of(t: Triple, k: usize) -> usize
-    requires { ⌜ k < 3 ⌝ }
-    ensures { λ r. ⌜ r ≡ part (triple t) k ⌝ }
+// How many bytes the new file has.
+pub(crate) fn new_size(file: &[u8], plan: Plan) -> usize
+    requires { ⌜ Planned (now file) plan ⌝ }
+    ensures { λ r. ⌜ r ≡ length (write (renewed (now (file .entry)) plan)) ⌝ }
 {
-    if k == 0 {
-        return t.0;
-    }
-    if k == 1 {
-        return t.1;
-    }
-    t.2
+    let labels = section_size(file, 0);
+    let steps = section_size(file, 1);
+    4 * Case::SECTIONS + labels + steps + 3 * plan.nodes + 1
 }
 
-// Byte i of the new file, before the nodes: only the length of the rule, in bytes 10 and 11, has changed.
-fn front_byte(file: &[u8], plan: Plan, i: usize) -> usize
-    requires { ⌜ Planned (now file) plan × (i < plan .rule) ⌝ }
-    ensures { λ r. ⌜ r ≡ byteAt (write (renewed (now (file .entry)) plan)) i ⌝ }
+// Writes the new nodes.
+fn put_nodes(file: &[u8], plan: Plan, out: &mut [u8], base: usize) -> usize
+    requires { ⌜ Planned (now file) plan × (base + 3 * plan .nodes ≤ length (now out)) ⌝ }
+    ensures { λ r. ⌜ Laid (now (out .entry)) (now (out .exit)) base r (flat (renewed (now (file .entry)) plan .nodes)) ⌝ }
 {
-    let size = 3 * plan.nodes + 1;
-    if i == 10 {
-        return size % 256;
+    let mut end = base;
+    for i in 0..plan.nodes {
+        let t = new_node(file, plan, i);
+        end = put_triple(t.0, t.1, t.2, out, end);
     }
-    if i == 11 {
-        return size / 256;
-    }
-    file[i] as usize
+    end
 }
 
-// Byte i of the new file.
-fn new_byte(file: &[u8], plan: Plan, i: usize) -> usize
-    requires { ⌜ Planned (now file) plan × (i < length (write (renewed (now file) plan))) ⌝ }
-    ensures { λ r. ⌜ r ≡ byteAt (write (renewed (now (file .entry)) plan)) i ⌝ }
+// Writes the new rule: the nodes and the root.
+fn put_rule(file: &[u8], plan: Plan, out: &mut [u8], base: usize) -> usize
+    requires { ⌜ Planned (now file) plan × (base + 3 * plan .nodes + 1 ≤ length (now out)) ⌝ }
+    ensures { λ r. ⌜ Laid (now (out .entry)) (now (out .exit)) base r (ruleBytes (renewed (now (file .entry)) plan)) ⌝ }
 {
-    if i < plan.rule {
-        return front_byte(file, plan, i);
-    }
-    let x = i - plan.rule;
-    if x / 3 < plan.nodes {
-        return byte_of(new_node(file, plan, x / 3), x % 3);
-    }
-    name(plan.shape, plan.j, root(file))
+    let end = put_nodes(file, plan, out, base);
+    put_byte(name(plan.shape, plan.j, root(file)), out, end)
+}
+
+// Writes section k of the old file as it was.
+fn put_section(file: &[u8], k: usize, out: &mut [u8], base: usize) -> usize
+    requires { ⌜ (k < sections) × (offset (now file) k + size (now file) k ≤ length (now file)) × (base + size (now file) k ≤ length (now out)) ⌝ }
+    ensures { λ r. ⌜ Laid (now (out .entry)) (now (out .exit)) base r (section (now (file .entry)) k) ⌝ }
+{
+    let start = section_offset(file, k);
+    let count = section_size(file, k);
+    put_part(file, start, count, out, base)
 }
 
 // Writes the new file.
 pub(crate) fn write_new(file: &[u8], plan: Plan, out: &mut [u8]) -> usize
     requires { ⌜ Planned (now file) plan × (length (write (renewed (now file) plan)) ≤ length (now out)) ⌝ }
-    ensures { λ r. ⌜ r ≡ length (write (renewed (now (file .entry)) plan)) ⌝ }
-    ensures { λ r. ⌜ now (out .exit) ≡ write (renewed (now (file .entry)) plan) ++ drop (length (write (renewed (now (file .entry)) plan))) (now (out .entry)) ⌝ }
+    ensures { λ r. ⌜ Laid (now (out .entry)) (now (out .exit)) 0 r (write (renewed (now (file .entry)) plan)) ⌝ }
 {
-    let size = plan.rule + 3 * plan.nodes + 1;
-    for i in 0..size {
-        out[i] = new_byte(file, plan, i) as u8;
-    }
-    size
+    let sizes = [
+        section_size(file, 0),
+        section_size(file, 1),
+        3 * plan.nodes + 1,
+    ];
+    let labels = put_pairs(&sizes, out);
+    let steps = put_section(file, 0, out, labels);
+    let rule = put_section(file, 1, out, steps);
+    put_rule(file, plan, out, rule)
 }

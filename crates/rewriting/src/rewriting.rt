@@ -1,24 +1,25 @@
 // Rewriting: a law at a node, if its shape is there, and the new case file.
 ghost use mathlib.Core.Path.{_≡_};
+ghost use Rattle.case_model.specs.Limits.{standard};
 ghost use Rattle.case_model.specs.Rows.{sound, refusals};
 ghost use Rattle.case_model.specs.Book.{rewrites};
 ghost use Rattle.case_model.specs.Run.{Promised};
-ghost use Rattle.bisim.specs.Told.{told};
+ghost use Rattle.case_file.specs.EnumNumbers.{writtenReply};
 use crate::plan::Plan;
+use crate::plan::new_size;
 use crate::plan::write_new;
 use crate::shapes::shape_at;
-use bisim::Written;
-use bisim::refused;
 use case_file::Case;
 use case_file::Reason;
 use case_file::Vetted;
+use case_file::Written;
+use case_file::refused;
 use case_reader::node_count;
-use case_reader::section_offset;
 
 // Rewrites an accepted file.
 fn rewrite_accepted(file: &[u8], law: usize, node: usize, out: &mut [u8]) -> Written
-    requires { ⌜ refusals (now file) ≡ sound ⌝ }
-    ensures { λ r. ⌜ Promised (now (file .entry)) (record { asked = rewrites law node; before = now (out .entry); after = now (out .exit); told = told r }) ⌝ }
+    requires { ⌜ refusals standard (now file) ≡ sound ⌝ }
+    ensures { λ r. ⌜ Promised (now (file .entry)) (record { asked = rewrites law node; before = now (out .entry); after = now (out .exit); told = writtenReply r }) ⌝ }
 {
     let m = node_count(file);
     if m <= node {
@@ -33,23 +34,21 @@ fn rewrite_accepted(file: &[u8], law: usize, node: usize, out: &mut [u8]) -> Wri
     if Case::NODES < nodes {
         return refused(Reason::TooManyNodes);
     }
-    let rule = section_offset(file, 2);
-    if out.len() < rule + 3 * nodes + 1 {
-        return refused(Reason::Room);
-    }
     let plan = Plan {
         shape,
         j: node,
-        rule,
         nodes,
     };
+    if out.len() < new_size(file, plan) {
+        return refused(Reason::Room);
+    }
     let size = write_new(file, plan, out);
     Written::Bytes(size)
 }
 
 // Rewrites node `node` by law `law`, and writes the new case.
 pub fn rewrite(file: &[u8], law: usize, node: usize, out: &mut [u8]) -> Written
-    ensures { λ r. ⌜ Promised (now (file .entry)) (record { asked = rewrites law node; before = now (out .entry); after = now (out .exit); told = told r }) ⌝ }
+    ensures { λ r. ⌜ Promised (now (file .entry)) (record { asked = rewrites law node; before = now (out .entry); after = now (out .exit); told = writtenReply r }) ⌝ }
 {
     let vetted = Case::new(file);
     let Vetted::Refused(refusal) = vetted else {

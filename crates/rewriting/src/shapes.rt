@@ -5,10 +5,11 @@ ghost use mathlib.Core.Path.{_≡_};
 ghost use Prim.Native.Nat.{_<_};
 ghost use lib.ListN.{getD};
 ghost use Rattle.case_model.specs.Case.{read};
-ghost use Rattle.case_model.specs.Rows.{mostNodes};
+ghost use Rattle.case_model.specs.Limits.{mostNodes};
 ghost use Rattle.case_model.specs.Rewriting.{nothing, lawsAt, change};
 ghost use Rattle.case_reader.specs.Read.{triple};
 ghost use Rattle.rewriting.specs.Shapes.{Does};
+use case_reader::Kind;
 use case_reader::Triple;
 use case_reader::node;
 
@@ -57,24 +58,32 @@ fn shape_of(law: usize, j: usize, n: Triple, x: Triple, y: Triple) -> Shape
     requires { ⌜ j < mostNodes ⌝ }
     ensures { λ r. ⌜ Does j r (getD (nothing ∷ lawsAt j (triple n) (triple x) (triple y)) law nothing) ⌝ }
 {
-    let chop = n.0 == 10;
-    let pair = (8 <= n.0) & (n.0 <= 9);
-    let left = Triple(10, x.1, n.2);
-    let right = Triple(10, x.2, n.2);
+    let chop = n.0 == Kind::CHOP;
+    let pair = (n.0 == Kind::OR) | (n.0 == Kind::AND);
+    let left = Triple(Kind::CHOP, x.1, n.2);
+    let right = Triple(Kind::CHOP, x.2, n.2);
+    let either = Triple(Kind::OR, j, j + 1);
+    let both = Triple(Kind::AND, j, j + 1);
     match law {
-        1 => redirect(chop & (x.0 == 5), n, n.2),
-        2 => redirect(chop & (y.0 == 5), n, n.1),
-        3 => redirect(chop & (x.0 <= 3), n, n.1),
-        4 => insert(chop & (x.0 == 10), 1, right, Triple(10, x.1, j), n),
-        5 => insert(
-            chop & (y.0 == 10),
+        1 => redirect(chop & (x.0 == Kind::TAU), n, n.2),
+        2 => redirect(chop & (y.0 == Kind::TAU), n, n.1),
+        3 => redirect(chop & (x.0 <= Kind::LAST_CONSTANT), n, n.1),
+        4 => insert(
+            chop & (x.0 == Kind::CHOP),
             1,
-            Triple(10, n.1, y.1),
-            Triple(10, j, y.2),
+            right,
+            Triple(Kind::CHOP, x.1, j),
             n,
         ),
-        6 => insert(chop & (x.0 == 8), 2, left, right, Triple(8, j, j + 1)),
-        7 => insert(chop & (x.0 == 9), 2, left, right, Triple(9, j, j + 1)),
+        5 => insert(
+            chop & (y.0 == Kind::CHOP),
+            1,
+            Triple(Kind::CHOP, n.1, y.1),
+            Triple(Kind::CHOP, j, y.2),
+            n,
+        ),
+        6 => insert(chop & (x.0 == Kind::OR), 2, left, right, either),
+        7 => insert(chop & (x.0 == Kind::AND), 2, left, right, both),
         8 => redirect(pair & (n.1 == n.2), n, n.1),
         9 => insert(pair, 0, Triple(n.0, n.2, n.1), n, n),
         _ => insert(false, 0, n, n, n),

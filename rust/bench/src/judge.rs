@@ -1,6 +1,10 @@
 //! The proved judge's algorithm in Rust: node j's table is the words from j × 2^n on.
 use crate::plan::{Plan, ALWAYS};
 use crate::tables::Tables;
+use plain::kinds::{
+    AND, BOX, CHOP, COMPLEMENT, DIAMOND, FALSE, MU, OR, PROPOSITION, TAU, TRUE, VARIABLE,
+};
+use plain::Shape;
 
 /// The root's function at the set, and its rounds. The area is zero afterwards.
 pub fn judge(plan: &Plan, set: usize, work: &mut impl Tables) -> (u16, u64) {
@@ -28,13 +32,13 @@ fn refresh<T: Tables>(plan: &Plan, k: usize, old: u32, active: u32, grown: u8, w
 /// Computes node j from the lower ones: a binder's approximants until one equals the next. The
 /// answer is how many it took.
 fn compute<T: Tables>(plan: &Plan, j: usize, active: u32, grown: u8, work: &mut T) -> u64 {
-    let (kind, variable, body) = plan.node(j);
-    if kind < 11 {
+    let Shape::Binder(variable, body) = Shape::of(plan.node(j)) else {
         fill(plan, j, work);
         return 0;
-    }
+    };
+    let (kind, ..) = plan.node(j);
     if kind != grown {
-        let start = if kind == 11 { 0 } else { full(plan) };
+        let start = if kind == MU { 0 } else { full(plan) };
         work.constant(plan.size, j * plan.size, start);
     }
     let mut rounds = 0;
@@ -56,20 +60,22 @@ fn full(plan: &Plan) -> u16 {
 /// Node j, which is no binder.
 fn fill<T: Tables>(plan: &Plan, j: usize, work: &mut T) {
     let (kind, a, b) = plan.node(j);
+    let (a, b) = (usize::from(a), usize::from(b));
     let size = plan.size;
     let (left, right, to) = (a * size, b * size, j * size);
     match kind {
-        0 => work.constant(size, to, full(plan)),
-        1 => work.constant(size, to, 0),
-        2 => work.constant(size, to, plan.props[a]),
-        3 => work.constant(size, to, full(plan) - plan.props[a]),
-        4 => work.copy(size, plan.homes[a] * size, to),
-        5 => work.identity(size, to),
-        6 => diamond(plan, a, to, work),
-        7 => boxed(plan, a, to, work),
-        8 => work.union(size, left, right, to),
-        9 => work.intersection(size, left, right, to),
-        _ => work.chop(size, left, right, to),
+        TRUE => work.constant(size, to, full(plan)),
+        FALSE => work.constant(size, to, 0),
+        PROPOSITION => work.constant(size, to, plan.props[a]),
+        COMPLEMENT => work.constant(size, to, full(plan) - plan.props[a]),
+        VARIABLE => work.copy(size, plan.homes[a] * size, to),
+        TAU => work.identity(size, to),
+        DIAMOND => diamond(plan, a, to, work),
+        BOX => boxed(plan, a, to, work),
+        OR => work.union(size, left, right, to),
+        AND => work.intersection(size, left, right, to),
+        CHOP => work.chop(size, left, right, to),
+        _ => unreachable!("no kind of a node that is filled"),
     }
 }
 

@@ -1,4 +1,5 @@
 //! Nested binders with many rounds on every level.
+use plain::kinds::{AND, CHOP, MU, NU, OR, PROPOSITION, VARIABLE};
 use plain::{Case, Triple};
 
 /// How the binders of a rule follow one another, from the outermost in.
@@ -13,8 +14,8 @@ pub enum Binders {
 impl Binders {
     fn kind(self, level: usize) -> u8 {
         match self {
-            Binders::OneKind => 11,
-            Binders::Alternating => 11 + (level % 2) as u8,
+            Binders::OneKind => MU,
+            Binders::Alternating => [MU, NU][level % 2],
         }
     }
 }
@@ -34,16 +35,19 @@ pub fn case(rings: &[usize], levels: usize, binders: Binders) -> Case {
     let mut nodes = vec![(6, 0, 0), (7, 1, 0), (6, 1, 0)];
     for level in 0..levels {
         let next = nodes.len() as u8;
-        let kind = binders.kind(level);
+        let (operation, modality) = match binders.kind(level) {
+            MU => (OR, 1),
+            _ => (AND, 2),
+        };
         nodes.extend([
-            (4, level as u8, 0),
-            (10, next, 0),
-            (kind - 3, kind - 10, next + 1),
-            (2, level as u8, 0),
-            (9, next + 3, next + 2),
+            (VARIABLE, level as u8, 0),
+            (CHOP, next, 0),
+            (operation, modality, next + 1),
+            (PROPOSITION, level as u8, 0),
+            (AND, next + 3, next + 2),
         ]);
         if level > 0 {
-            nodes.push((8, next - 1, next + 4));
+            nodes.push((OR, next - 1, next + 4));
         }
     }
     for level in (0..levels).rev() {

@@ -1,4 +1,6 @@
 //! What a judgement works out once from the file, as the proved judge does.
+use plain::kinds::VARIABLE;
+use plain::{Shape, Triple};
 
 pub struct Plan<'a> {
     pub states: usize,
@@ -49,9 +51,9 @@ impl<'a> Plan<'a> {
     }
 
     /// Kind, A and B of node j.
-    pub fn node(&self, j: usize) -> (u8, usize, usize) {
+    pub fn node(&self, j: usize) -> Triple {
         let node = &self.nodes[3 * j..3 * j + 3];
-        (node[0], node[1].into(), node[2].into())
+        (node[0], node[1], node[2])
     }
 
     fn read_labels(&mut self, labels: &[u8]) {
@@ -71,26 +73,27 @@ impl<'a> Plan<'a> {
     fn read_nodes(&mut self) {
         let mut free = [0_u32; 64];
         for j in 0..self.nodes.len() / 3 {
-            let (kind, a, b) = self.node(j);
-            free[j] = match kind {
-                4 => 1 << a,
-                8..=10 => free[a] | free[b],
-                11 | 12 => free[b] & !(1 << a),
-                _ => 0,
+            let (kind, a, _) = self.node(j);
+            free[j] = match Shape::of(self.node(j)) {
+                Shape::Leaf if kind == VARIABLE => 1 << a,
+                Shape::Leaf => 0,
+                Shape::Two(left, right) => free[left] | free[right],
+                Shape::Binder(variable, body) => {
+                    self.homes[usize::from(variable)] = j;
+                    free[body] & !(1 << variable)
+                }
             };
-            if kind >= 11 {
-                self.homes[a] = j;
-            }
         }
         self.scopes[self.root] = ALWAYS;
         for j in (0..=self.root).rev() {
             if self.scopes[j] == ALWAYS {
-                let (kind, a, b) = self.node(j);
-                if matches!(kind, 8..=10) {
-                    self.scopes[a] = ALWAYS;
-                }
-                if kind >= 8 {
-                    self.scopes[b] = ALWAYS;
+                match Shape::of(self.node(j)) {
+                    Shape::Leaf => {}
+                    Shape::Two(left, right) => {
+                        self.scopes[left] = ALWAYS;
+                        self.scopes[right] = ALWAYS;
+                    }
+                    Shape::Binder(_, body) => self.scopes[body] = ALWAYS,
                 }
             }
         }

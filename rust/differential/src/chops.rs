@@ -1,5 +1,6 @@
 //! Rules in which the laws find much to rewrite: nested chops, unions and intersections.
 use crate::rng::Rng;
+use plain::kinds::{AND, CHOP, MU, NU, OR};
 use plain::{Case, Triple};
 
 /// The leaves: node 4 is the variable that the root binds.
@@ -18,11 +19,11 @@ const LEAVES: [Triple; 8] = [
 pub fn put_into(rng: &mut Rng, case: Case, most: usize) -> Case {
     let mut nodes = LEAVES.to_vec();
     for _ in 0..rng.within(1..=most - LEAVES.len() - 1) {
-        let kind = rng.pick(&[8, 9, 10, 10]);
+        let kind = rng.pick(&[OR, AND, CHOP, CHOP]);
         let (left, right) = (named(rng, nodes.len()), named(rng, nodes.len()));
         nodes.push((kind, left, right));
     }
-    nodes.push((11 + rng.byte_below(2), 0, nodes.len() as u8 - 1));
+    nodes.push((rng.pick(&[MU, NU]), 0, nodes.len() as u8 - 1));
     Case {
         root: nodes.len() as u8 - 1,
         nodes,

@@ -1,7 +1,10 @@
 //! Cases for judging: rules drawn from the root down, so that binders bind what their bodies use.
 //! Nodes are shared, and some that the root does not reach stand between the others.
 use crate::rng::Rng;
-use plain::{Case, Triple};
+use plain::kinds::{
+    AND, BOX, CHOP, COMPLEMENT, DIAMOND, FALSE, MU, NU, OR, PROPOSITION, TAU, TRUE, VARIABLE,
+};
+use plain::{Case, Shape, Triple};
 
 /// How large a case may get.
 #[derive(Clone, Copy)]
@@ -111,16 +114,16 @@ impl Rule {
             0 => self.shared(rng, bounds),
             1 => self.leaf(rng),
             2..=3 if bounds.nesting > 0 => self.binder(rng, deeper),
-            kind => {
+            drawn => {
                 let (left, right) = (self.formula(rng, deeper), self.formula(rng, deeper));
-                self.push(rng, (8 + (kind % 3) as u8, left, right))
+                self.push(rng, ([OR, AND, CHOP][drawn % 3], left, right))
             }
         }
     }
 
     fn binder(&mut self, rng: &mut Rng, bounds: Bounds) -> u8 {
         let inner = bounds.below_binder();
-        let kind = 11 + rng.byte_below(2);
+        let kind = rng.pick(&[MU, NU]);
         self.bind(rng, kind, |rule, rng| {
             if rng.one_in(4) || inner.depth == 0 {
                 rule.formula(rng, inner)
@@ -133,13 +136,13 @@ impl Rule {
     /// Binders of both kinds, one within the other: μY.A or D;νZ.(B or Y) and C;Z and the like.
     fn alternation(&mut self, rng: &mut Rng, bounds: Bounds) -> u8 {
         let inner = bounds.below_binder().below_binder().deeper();
-        let kind = 11 + rng.byte_below(2);
-        let other = 23 - kind;
+        let kind = rng.pick(&[MU, NU]);
+        let other = other(kind);
         self.bind(rng, kind, |rule, rng| {
             let start = rule.formula(rng, inner);
             let fixed = rule.bind(rng, other, |rule, rng| rule.turning_body(rng, inner, other));
             let modality = rule.modality(rng);
-            let turn = rule.push(rng, (10, modality, fixed));
+            let turn = rule.push(rng, (CHOP, modality, fixed));
             rule.push(rng, (operation(kind), start, turn))
         })
     }
@@ -164,14 +167,14 @@ impl Rule {
     fn turning_body(&mut self, rng: &mut Rng, bounds: Bounds, kind: u8) -> u8 {
         let variable = *self.scope.last().expect("the binder's variable");
         let start = self.start(rng, bounds.deeper(), kind);
-        let name = self.push(rng, (4, variable, 0));
+        let name = self.push(rng, (VARIABLE, variable, 0));
         let other = if rng.one_in(2) {
             self.modality(rng)
         } else {
             self.formula(rng, bounds.deeper())
         };
         let (left, right) = rng.pick(&[(name, other), (other, name)]);
-        let turn = self.push(rng, (10, left, right));
+        let turn = self.push(rng, (CHOP, left, right));
         self.push(rng, (operation(kind), start, turn))
     }
 
@@ -183,15 +186,17 @@ impl Rule {
         if outer.is_empty() || rng.one_in(4) {
             return start;
         }
-        let node = (4, rng.pick(outer), 0);
+        let node = (VARIABLE, rng.pick(outer), 0);
         let outer = self.push(rng, node);
-        let kind = rng.pick(&[operation(23 - kind), operation(23 - kind), 10]);
+        let opposite = operation(other(kind));
+        let kind = rng.pick(&[opposite, opposite, CHOP]);
         self.push(rng, (kind, start, outer))
     }
 
     fn modality(&mut self, rng: &mut Rng) -> u8 {
-        let node = (6 + rng.byte_below(2), rng.byte_below(ACTIONS), 0);
-        self.push(rng, node)
+        let kind = rng.pick(&[DIAMOND, BOX]);
+        let action = rng.byte_below(ACTIONS);
+        self.push(rng, (kind, action, 0))
     }
 
     /// A node that is there already, if one fits.
@@ -209,10 +214,10 @@ impl Rule {
     fn leaf(&mut self, rng: &mut Rng) -> u8 {
         let variable = !self.scope.is_empty() && rng.one_in(2);
         let node = match rng.below(12) {
-            _ if variable => (4, rng.pick(&self.scope), 0),
-            0 => (rng.byte_below(2), 0, 0),
-            1..=2 => (2 + rng.byte_below(2), rng.byte_below(8), 0),
-            3..=5 => (5, 0, 0),
+            _ if variable => (VARIABLE, rng.pick(&self.scope), 0),
+            0 => (rng.pick(&[TRUE, FALSE]), 0, 0),
+            1..=2 => (rng.pick(&[PROPOSITION, COMPLEMENT]), rng.byte_below(8), 0),
+            3..=5 => (TAU, 0, 0),
             _ => return self.modality(rng),
         };
         self.push(rng, node)
@@ -228,31 +233,30 @@ impl Rule {
 
     /// A node with free variables, bound elsewhere or nowhere; or a binder over any node.
     fn unreached(&mut self, rng: &mut Rng) {
-        let variable = self.add((4, rng.byte_below(16), 0));
+        let variable = self.add((VARIABLE, rng.byte_below(16), 0));
         let below = rng.byte_below(self.nodes.len());
         match (rng.below(3), self.unused.len()) {
             (0, 4..) => {
                 let bound = self.unused.pop().expect("four at least");
-                self.add((11 + rng.byte_below(2), bound, below));
+                self.add((rng.pick(&[MU, NU]), bound, below));
             }
             (1, _) => {
-                self.add((8 + rng.byte_below(3), variable, below));
+                self.add((rng.pick(&[OR, AND, CHOP]), variable, below));
             }
             _ => {}
         }
     }
 
     fn add(&mut self, node: Triple) -> u8 {
-        let (kind, a, b) = node;
-        let (left, right) = (usize::from(a), usize::from(b));
-        let (free, nesting) = match kind {
-            4 => (1 << a, 0),
-            8..=10 => (
+        let (kind, a, _) = node;
+        let (free, nesting) = match Shape::of(node) {
+            Shape::Leaf if kind == VARIABLE => (1 << a, 0),
+            Shape::Leaf => (0, 0),
+            Shape::Two(left, right) => (
                 self.free[left] | self.free[right],
                 self.nesting[left].max(self.nesting[right]),
             ),
-            11 | 12 => (self.free[right] & !(1 << a), 1 + self.nesting[right]),
-            _ => (0, 0),
+            Shape::Binder(v, body) => (self.free[body] & !(1 << v), 1 + self.nesting[body]),
         };
         self.nodes.push(node);
         self.free.push(free);
@@ -261,9 +265,20 @@ impl Rule {
     }
 }
 
+/// The other binder's kind.
+fn other(kind: u8) -> u8 {
+    match kind {
+        MU => NU,
+        _ => MU,
+    }
+}
+
 /// The operation with which a binder of this kind gathers: or for μ, and for ν.
 fn operation(kind: u8) -> u8 {
-    kind - 3
+    match kind {
+        MU => OR,
+        _ => AND,
+    }
 }
 
 fn shuffled(rng: &mut Rng) -> Vec<u8> {

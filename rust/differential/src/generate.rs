@@ -1,6 +1,10 @@
 //! Valid cases: shared nodes, nested binders, unreached nodes with free variables.
 use crate::rng::Rng;
-use plain::{Case, Triple};
+use plain::kinds::{
+    values_of_a, AND, BOX, CHOP, COMPLEMENT, DIAMOND, FALSE, MU, NU, OR, PROPOSITION, TAU, TRUE,
+    VARIABLE,
+};
+use plain::{Case, Shape, Triple};
 
 /// A valid case and, for each node, its free variables: bit v for variable v.
 pub struct Drawn {
@@ -99,18 +103,20 @@ impl Rule {
     }
 
     fn push(&mut self, node: Triple) {
-        let (kind, a, b) = node;
-        let free = |named: u8| self.free[usize::from(named)];
-        let depth = |named: u8| 1 + self.depth[usize::from(named)];
-        let (free, depth) = match kind {
-            4 => (1 << a, 0),
-            8..=10 => (free(a) | free(b), depth(a).max(depth(b))),
-            11 | 12 => (free(b) & !(1 << a), depth(b)),
-            _ => (0, 0),
+        let (kind, a, _) = node;
+        let depth = |named: usize| 1 + self.depth[named];
+        let (free, depth) = match Shape::of(node) {
+            Shape::Leaf if kind == VARIABLE => (1 << a, 0),
+            Shape::Leaf => (0, 0),
+            Shape::Two(left, right) => (
+                self.free[left] | self.free[right],
+                depth(left).max(depth(right)),
+            ),
+            Shape::Binder(variable, body) => {
+                self.bound |= 1 << variable;
+                (self.free[body] & !(1 << variable), depth(body))
+            }
         };
-        if kind >= 11 {
-            self.bound |= 1 << a;
-        }
         self.nodes.push(node);
         self.free.push(free);
         self.depth.push(depth);
@@ -119,9 +125,12 @@ impl Rule {
     fn node(&self, rng: &mut Rng) -> Triple {
         match rng.below(10) {
             0..=1 => leaf(rng),
-            2..=3 => (4, self.variable(rng), 0),
+            2..=3 => (VARIABLE, self.variable(rng), 0),
             _ if self.nodes.is_empty() => leaf(rng),
-            4..=7 => (8 + rng.byte_below(3), self.named(rng), self.named(rng)),
+            4..=7 => {
+                let kind = rng.pick(&[OR, AND, CHOP]);
+                (kind, self.named(rng), self.named(rng))
+            }
             _ => {
                 let body = self.named(rng);
                 self.binder(rng, body)
@@ -164,7 +173,7 @@ impl Rule {
         if possible.is_empty() {
             return leaf(rng);
         }
-        (11 + rng.byte_below(2), rng.pick(&possible), body)
+        (rng.pick(&[MU, NU]), rng.pick(&possible), body)
     }
 
     /// Nests binders over the last node until it has no free variable, if they find room.
@@ -182,9 +191,10 @@ impl Rule {
 
 /// A node that names no other and is no variable.
 fn leaf(rng: &mut Rng) -> Triple {
-    match rng.pick(&[0, 1, 2, 3, 5, 6, 7]) {
-        kind @ (0 | 1 | 5) => (kind, 0, 0),
-        kind => (kind, rng.byte_below(8), 0),
+    let kind = rng.pick(&[TRUE, FALSE, PROPOSITION, COMPLEMENT, TAU, DIAMOND, BOX]);
+    match values_of_a(kind) {
+        Some(values @ 2..) => (kind, rng.byte_below(values), 0),
+        _ => (kind, 0, 0),
     }
 }
 

@@ -1,30 +1,32 @@
 //! How large a rule is to the plain checker's meanings.
-use plain::Case;
+use plain::{Case, Shape};
 
 /// The binders on one path down from the root, at most.
 pub fn nesting(case: &Case) -> usize {
-    fold(case, |kind, left, right| match kind {
-        8..=10 => left.max(right),
-        11 | 12 => 1 + right,
-        _ => 0_usize,
-    })
+    fold(case, 0, usize::max, |body| 1 + body)
 }
 
 /// The nodes of the rule's tree, a binder's body counted `turns` times.
 pub fn tree_size(case: &Case, turns: usize) -> usize {
-    fold(case, |kind, left, right| match kind {
-        8..=10 => left.saturating_add(right).saturating_add(1),
-        11 | 12 => right.saturating_add(1).saturating_mul(turns),
-        _ => 1,
-    })
+    let two = |left: usize, right| left.saturating_add(right).saturating_add(1);
+    let binder = |body: usize| body.saturating_add(1).saturating_mul(turns);
+    fold(case, 1, two, binder)
 }
 
-/// The root's measure, where `of` gives a node's from its kind and those of the nodes it names.
-fn fold(case: &Case, of: impl Fn(u8, usize, usize) -> usize) -> usize {
+/// The root's measure: a leaf's is given, any other node's made from those of the nodes it names.
+fn fold(
+    case: &Case,
+    leaf: usize,
+    two: impl Fn(usize, usize) -> usize,
+    binder: impl Fn(usize) -> usize,
+) -> usize {
     let mut measures: Vec<usize> = vec![];
-    for &(kind, a, b) in &case.nodes {
-        let named = |node: u8| measures.get(usize::from(node)).copied().unwrap_or(0);
-        let measure = of(kind, named(a), named(b));
+    for &node in &case.nodes {
+        let measure = match Shape::of(node) {
+            Shape::Leaf => leaf,
+            Shape::Two(left, right) => two(measures[left], measures[right]),
+            Shape::Binder(_, body) => binder(measures[body]),
+        };
         measures.push(measure);
     }
     measures[usize::from(case.root)]

@@ -1,7 +1,8 @@
 //! Files of which only the two checkers can tell what they get, and section numbers.
 use crate::generate::case;
 use crate::rng::Rng;
-use plain::{pack, write, Triple};
+use plain::kinds::{self, VARIABLE};
+use plain::{pack, write, Shape, Triple, PAIRS_LENGTH};
 
 pub type Strange = fn(&mut Rng) -> Vec<u8>;
 
@@ -61,7 +62,7 @@ fn sections_swapped(rng: &mut Rng) -> Vec<u8> {
 fn sections_cut_elsewhere(rng: &mut Rng) -> Vec<u8> {
     let case = case(rng);
     let file = write(&case);
-    let body = &file[12..];
+    let body = &file[PAIRS_LENGTH..];
     let states = case.labels.len();
     let mut moved = |border: usize| (border + rng.below(7)).saturating_sub(3).min(body.len());
     let first = moved(states);
@@ -91,11 +92,12 @@ fn any_nodes(rng: &mut Rng) -> Vec<u8> {
 }
 
 fn any_node(rng: &mut Rng, number: usize) -> Triple {
-    match rng.byte_below(14) {
-        kind @ 8..=10 => (kind, rng.byte_below(number + 1), rng.byte_below(number + 1)),
-        kind @ (11 | 12) => (kind, rng.byte_below(17), rng.byte_below(number + 1)),
-        4 => (4, rng.byte_below(3), 0),
-        kind => (kind, 0, 0),
+    let kind = rng.byte_below(kinds::COUNT + 1);
+    match Shape::of((kind, 0, 0)) {
+        Shape::Two(..) => (kind, rng.byte_below(number + 1), rng.byte_below(number + 1)),
+        Shape::Binder(..) => (kind, rng.byte_below(17), rng.byte_below(number + 1)),
+        Shape::Leaf if kind == VARIABLE => (kind, rng.byte_below(3), 0),
+        Shape::Leaf => (kind, 0, 0),
     }
 }
 

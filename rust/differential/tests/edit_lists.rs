@@ -5,7 +5,7 @@ use differential::edits::{turn, LONGEST};
 use differential::judging::{all_states, needed, proved};
 use differential::rng::Rng;
 use differential::{alike_tables, chops, drives, generate};
-use plain::{write, Book, Case, Edit};
+use plain::{write, Book, Case, Edit, Shape};
 
 /// How often each reply came.
 #[derive(Default, Debug)]
@@ -88,7 +88,7 @@ fn merge(rng: &mut Rng, states: usize) -> Edit {
 
 /// A law at a node that names two others, if there is one.
 fn rewrite_at_two(rng: &mut Rng, case: &Case) -> Edit {
-    let two = |&j: &usize| (8..=10).contains(&case.nodes[j].0);
+    let two = |&j: &usize| matches!(Shape::of(case.nodes[j]), Shape::Two(..));
     let mut nodes: Vec<usize> = (0..case.nodes.len()).filter(two).collect();
     nodes.push(0);
     Edit::Rewrite {

@@ -5,7 +5,8 @@ use differential::formulas::{self, Bounds};
 use differential::replies::refused;
 use differential::rng::Rng;
 use differential::{chops, drives, generate};
-use plain::{write, Case, Refusal, Triple};
+use plain::kinds::{self, values_of_a, AND, CHOP, MU, NU, OR, VARIABLE};
+use plain::{write, Case, Refusal, Shape, Triple};
 
 /// The laws and numbers that are none, some of them right modulo a power of two.
 const LAWS: [usize; 14] = [
@@ -83,11 +84,11 @@ fn random_rules() {
 
 /// A node of this kind over nodes 0 and 1, its variable free or bound by no other.
 fn over_leaves(kind: u8, variable: u8) -> Triple {
-    match kind {
-        0 | 1 | 5 => (kind, 0, 0),
-        8..=10 => (kind, 0, 1),
-        11 | 12 => (kind, variable, 1),
-        _ => (kind, 1, 0),
+    match Shape::of((kind, 0, 0)) {
+        Shape::Leaf if values_of_a(kind) == Some(1) => (kind, 0, 0),
+        Shape::Leaf => (kind, 1, 0),
+        Shape::Two(..) => (kind, 0, 1),
+        Shape::Binder(..) => (kind, variable, 1),
     }
 }
 
@@ -95,7 +96,8 @@ fn over_leaves(kind: u8, variable: u8) -> Triple {
 /// other mentions of it behind.
 fn shape(top: u8, left: u8, right: u8, twice: bool) -> Case {
     let (a, b) = if twice { (2, 2) } else { (2, 3) };
-    let a = if top >= 11 { 14 } else { a };
+    let binds = Shape::of((top, a, b)).bound().is_some();
+    let a = if binds { 14 } else { a };
     let nodes = vec![
         (6, 0, 0),
         (7, 1, 0),
@@ -107,7 +109,7 @@ fn shape(top: u8, left: u8, right: u8, twice: bool) -> Case {
         (12, 4, 6),
     ];
     // Node 4 cannot be the root where it has a free variable.
-    let closed = left != 4 && right != 4;
+    let closed = left != VARIABLE && right != VARIABLE;
     Case {
         labels: vec![1],
         steps: vec![(0, 0, 0)],
@@ -117,9 +119,12 @@ fn shape(top: u8, left: u8, right: u8, twice: bool) -> Case {
 }
 
 fn shapes() -> impl Iterator<Item = Case> {
-    (0..5 * 13 * 13 * 2_usize).map(|i| {
-        let kind = |i: usize| (i % 13) as u8;
-        shape(8 + (i / 338) as u8, kind(i), kind(i / 13), i / 169 % 2 == 1)
+    const TOPS: [u8; 5] = [OR, AND, CHOP, MU, NU];
+    const PAIRS: usize = kinds::COUNT * kinds::COUNT;
+    (0..TOPS.len() * 2 * PAIRS).map(|i| {
+        let kind = |i: usize| (i % kinds::COUNT) as u8;
+        let (left, right) = (kind(i), kind(i / kinds::COUNT));
+        shape(TOPS[i / PAIRS / 2], left, right, i / PAIRS % 2 == 1)
     })
 }
 
@@ -149,12 +154,12 @@ fn padded(case: &Case, nodes: usize, in_front: bool) -> Case {
     }
     let up = |named: u8| named + more as u8;
     padded.nodes = vec![(5, 0, 0); more];
-    let moved = case.nodes.iter().map(|&(kind, a, b)| match kind {
-        8..=10 => (kind, up(a), up(b)),
-        11 | 12 => (kind, a, up(b)),
-        _ => (kind, a, b),
-    });
-    padded.nodes.extend(moved);
+    let moved = |&(kind, a, b): &Triple| match Shape::of((kind, a, b)) {
+        Shape::Leaf => (kind, a, b),
+        Shape::Two(..) => (kind, up(a), up(b)),
+        Shape::Binder(..) => (kind, a, up(b)),
+    };
+    padded.nodes.extend(case.nodes.iter().map(moved));
     padded.root = up(case.root);
     padded
 }

@@ -2,7 +2,7 @@
 use differential::edits::LONGEST;
 use differential::measure::nesting;
 use differential::rng::Rng;
-use plain::{Case, Edit};
+use plain::{Case, Edit, Shape};
 
 /// A number below the limit, at times one at it, above it or far beyond.
 pub fn number(rng: &mut Rng, limit: usize) -> usize {
@@ -71,7 +71,7 @@ pub fn merge(rng: &mut Rng, states: usize) -> Edit {
 
 /// A law mostly at a node that names two others, where most laws look.
 pub fn rewrite(rng: &mut Rng, case: &Case) -> Edit {
-    let two = |&j: &usize| (8..=10).contains(&case.nodes[j].0);
+    let two = |&j: &usize| matches!(Shape::of(case.nodes[j]), Shape::Two(..));
     let nodes: Vec<usize> = (0..case.nodes.len()).filter(two).collect();
     let node = if nodes.is_empty() || rng.one_in(4) {
         number(rng, case.nodes.len())

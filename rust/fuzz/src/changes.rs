@@ -1,6 +1,6 @@
 //! Changes of a file that make it a wrong case, or at times another right one.
 use differential::rng::Rng;
-use plain::pack;
+use plain::{pack, PAIRS_LENGTH};
 
 /// One to three changes.
 pub fn change(rng: &mut Rng, file: &mut Vec<u8>) {
@@ -42,7 +42,7 @@ fn border_pair(rng: &mut Rng, file: &mut [u8]) {
     let length = file.len();
     let at = 2 * rng.below(6);
     if let Some(number) = file.get_mut(at..at + 2) {
-        let near = [length, length - 1, length + 1, length - 12];
+        let near = [length, length - 1, length + 1, length - PAIRS_LENGTH];
         let value = if rng.one_in(2) {
             rng.pick(&near)
         } else {

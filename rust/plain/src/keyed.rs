@@ -1,5 +1,6 @@
 //! A rule whose nodes have keys that stay when others are put in between.
 use crate::case::{Case, Triple};
+use crate::node::Shape;
 use std::collections::BTreeMap;
 
 /// The number of a node that was there, and a rank: nodes put in before it have lower ones.
@@ -12,7 +13,7 @@ const WAS_THERE: usize = 2;
 pub enum Keyed {
     /// Names no node.
     Leaf(Triple),
-    /// Or, and, chop.
+    /// The kind of a node that names two, and those.
     Two(u8, Key, Key),
     /// A binder's kind, variable and body.
     Binder(u8, u8, Key),
@@ -35,16 +36,15 @@ pub fn before(node: Key) -> (Key, Key) {
 
 impl Rule {
     pub fn of(case: &Case) -> Rule {
-        let name = |byte: u8| key(byte.into());
-        let read = |&(kind, a, b): &Triple| match kind {
-            8..=10 => Keyed::Two(kind, name(a), name(b)),
-            11 | 12 => Keyed::Binder(kind, a, name(b)),
-            _ => Keyed::Leaf((kind, a, b)),
+        let read = |&node: &Triple| match Shape::of(node) {
+            Shape::Leaf => Keyed::Leaf(node),
+            Shape::Two(left, right) => Keyed::Two(node.0, key(left), key(right)),
+            Shape::Binder(variable, body) => Keyed::Binder(node.0, variable, key(body)),
         };
         let nodes = case.nodes.iter().map(read).enumerate();
         Rule {
             nodes: nodes.map(|(number, node)| (key(number), node)).collect(),
-            root: name(case.root),
+            root: key(case.root.into()),
         }
     }
 

@@ -30,6 +30,7 @@ pub use case::{pack, write, Case, Triple};
 pub use judging::{judge, Verdict};
 pub use meaning::{meaning, Meaning};
 pub use merging::merge;
+pub use node::{kinds, Shape};
 pub use refusal::Refusal;
 pub use rewriting::rewrite;
-pub use vetting::{open, parse, vet};
+pub use vetting::{open, parse, vet, PAIRS_LENGTH};

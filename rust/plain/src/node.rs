@@ -1,5 +1,77 @@
 //! The nodes of a rule: the table of kinds (docs/SPECIFICATION.md, 1.7).
 use crate::case::Triple;
+use kinds::*;
+
+/// The kinds by name. Elsewhere their numbers stand in the bytes of cases only.
+pub mod kinds {
+    pub const TRUE: u8 = 0;
+    pub const FALSE: u8 = 1;
+    pub const PROPOSITION: u8 = 2;
+    pub const COMPLEMENT: u8 = 3;
+    pub const VARIABLE: u8 = 4;
+    pub const TAU: u8 = 5;
+    pub const DIAMOND: u8 = 6;
+    pub const BOX: u8 = 7;
+    pub const OR: u8 = 8;
+    pub const AND: u8 = 9;
+    pub const CHOP: u8 = 10;
+    pub const MU: u8 = 11;
+    pub const NU: u8 = 12;
+
+    /// How many there are: the bytes below this one are kinds.
+    pub const COUNT: usize = 13;
+
+    /// The kinds of q in law 3: they yield the same whatever set is given.
+    pub const CONSTANT: [u8; 4] = [TRUE, FALSE, PROPOSITION, COMPLEMENT];
+
+    /// How many values A can have, 1 where it is unused; `None` where it is a node, or for no kind.
+    pub fn values_of_a(kind: u8) -> Option<usize> {
+        match kind {
+            TRUE | FALSE | TAU => Some(1),
+            PROPOSITION | COMPLEMENT | DIAMOND | BOX => Some(8),
+            VARIABLE | MU | NU => Some(16),
+            _ => None,
+        }
+    }
+}
+
+/// What a node names: the one classification of kinds.
+#[derive(Clone, Copy, Debug, PartialEq, Eq)]
+pub enum Shape {
+    /// No node.
+    Leaf,
+    /// Two nodes.
+    Two(usize, usize),
+    /// The variable that it binds, and its body.
+    Binder(u8, usize),
+}
+
+impl Shape {
+    /// The shape of any bytes. What is no kind names no node.
+    #[inline]
+    pub fn of((kind, a, b): Triple) -> Shape {
+        match kind {
+            OR | AND | CHOP => Shape::Two(a.into(), b.into()),
+            MU | NU => Shape::Binder(a, b.into()),
+            _ => Shape::Leaf,
+        }
+    }
+
+    pub fn named(self) -> Vec<usize> {
+        match self {
+            Shape::Leaf => vec![],
+            Shape::Two(left, right) => vec![left, right],
+            Shape::Binder(_, body) => vec![body],
+        }
+    }
+
+    pub fn bound(self) -> Option<u8> {
+        match self {
+            Shape::Binder(variable, _) => Some(variable),
+            _ => None,
+        }
+    }
+}
 
 /// One node. Named nodes are node numbers.
 #[derive(Clone, Copy, Debug, PartialEq, Eq)]
@@ -22,52 +94,66 @@ pub enum Node {
 impl Node {
     /// The node of these bytes; `None` where its kind, a range, an unused byte or a named node
     /// is wrong. `number` is the node's own number, which the nodes it names must be below.
-    pub fn read((kind, a, b): Triple, number: usize) -> Option<Node> {
-        let (left, right) = (usize::from(a), usize::from(b));
-        let node = match kind {
-            0 => Node::True,
-            1 => Node::False,
-            2 => Node::Proposition(a),
-            3 => Node::Complement(a),
-            4 => Node::Variable(a),
-            5 => Node::Tau,
-            6 => Node::Diamond(a),
-            7 => Node::Box(a),
-            8 => Node::Or(left, right),
-            9 => Node::And(left, right),
-            10 => Node::Chop(left, right),
-            11 => Node::Mu(a, right),
-            12 => Node::Nu(a, right),
+    pub fn read(triple: Triple, number: usize) -> Option<Node> {
+        let (kind, a, b) = triple;
+        let shape = Shape::of(triple);
+        let node = match (kind, shape) {
+            (TRUE, _) => Node::True,
+            (FALSE, _) => Node::False,
+            (PROPOSITION, _) => Node::Proposition(a),
+            (COMPLEMENT, _) => Node::Complement(a),
+            (VARIABLE, _) => Node::Variable(a),
+            (TAU, _) => Node::Tau,
+            (DIAMOND, _) => Node::Diamond(a),
+            (BOX, _) => Node::Box(a),
+            (OR, Shape::Two(left, right)) => Node::Or(left, right),
+            (AND, Shape::Two(left, right)) => Node::And(left, right),
+            (CHOP, Shape::Two(left, right)) => Node::Chop(left, right),
+            (MU, Shape::Binder(variable, body)) => Node::Mu(variable, body),
+            (NU, Shape::Binder(variable, body)) => Node::Nu(variable, body),
             _ => return None,
         };
-        let bytes_fit = match node {
-            Node::True | Node::False | Node::Tau => a == 0 && b == 0,
-            Node::Proposition(_) | Node::Complement(_) => a <= 7 && b == 0,
-            Node::Diamond(_) | Node::Box(_) => a <= 7 && b == 0,
-            Node::Variable(_) => a <= 15 && b == 0,
-            Node::Mu(..) | Node::Nu(..) => a <= 15,
-            Node::Or(..) | Node::And(..) | Node::Chop(..) => true,
-        };
-        let names_lower = node.named().iter().all(|&named| named < number);
-        (bytes_fit && names_lower).then_some(node)
+        let a_fits = values_of_a(kind).is_none_or(|values| usize::from(a) < values);
+        let b_fits = b == 0 || shape != Shape::Leaf;
+        let names_lower = shape.named().iter().all(|&named| named < number);
+        (a_fits && b_fits && names_lower).then_some(node)
+    }
+}
+
+#[cfg(test)]
+mod tests {
+    use super::*;
+
+    /// Of all bytes those whose node with A and B 0 is wanted.
+    fn kinds_where(wanted: impl Fn(Triple) -> bool) -> Vec<u8> {
+        (0..=255).filter(|&kind| wanted((kind, 0, 0))).collect()
     }
 
-    /// The nodes that this one names.
-    pub fn named(self) -> Vec<usize> {
-        match self {
-            Node::Or(left, right) | Node::And(left, right) | Node::Chop(left, right) => {
-                vec![left, right]
-            }
-            Node::Mu(_, body) | Node::Nu(_, body) => vec![body],
-            _ => vec![],
-        }
+    #[test]
+    fn every_byte_has_a_shape() {
+        let two = kinds_where(|node| Shape::of(node) == Shape::Two(0, 0));
+        assert_eq!(two, [8, 9, 10]);
+        let binders = kinds_where(|node| Shape::of(node) == Shape::Binder(0, 0));
+        assert_eq!(binders, [11, 12]);
+        let leaves = kinds_where(|node| Shape::of(node) == Shape::Leaf);
+        assert_eq!(leaves.len(), 256 - 5);
+        assert_eq!(Shape::of((12, 200, 3)), Shape::Binder(200, 3));
     }
 
-    /// The variable that this node binds.
-    pub fn bound(self) -> Option<u8> {
-        match self {
-            Node::Mu(variable, _) | Node::Nu(variable, _) => Some(variable),
-            _ => None,
+    #[test]
+    fn only_kinds_are_read() {
+        let read = kinds_where(|node| Node::read(node, 1).is_some());
+        assert_eq!(read, Vec::from_iter(0..COUNT as u8));
+    }
+
+    /// For each kind the highest A and B of node 1.
+    #[test]
+    fn highest_operands() {
+        let a = [0, 0, 7, 7, 15, 0, 7, 7, 0, 0, 0, 15, 15];
+        for (kind, a) in (0..).zip(a) {
+            assert!(Node::read((kind, a, 0), 1).is_some(), "kind {kind}");
+            assert_eq!(Node::read((kind, a + 1, 0), 1), None, "kind {kind}");
+            assert_eq!(Node::read((kind, a, 1), 1), None, "kind {kind}");
         }
     }
 }

@@ -1,14 +1,10 @@
 //! Rewriting by the nine laws (docs/SPECIFICATION.md, section 5).
 use crate::case::write;
 use crate::keyed::{before, key, Key, Keyed, Rule};
+use crate::node::kinds::{AND, CHOP, CONSTANT, OR, TAU};
 use crate::output::in_room;
 use crate::refusal::Refusal;
 use crate::vetting::{parse, MOST_NODES};
-
-const TAU: u8 = 5;
-const OR: u8 = 8;
-const AND: u8 = 9;
-const CHOP: u8 = 10;
 
 /// Rows 1 to 7 and 11 to 13, then the file of the rewritten case.
 pub fn rewrite(file: &[u8], law: usize, node: usize, room: usize) -> Result<Vec<u8>, Refusal> {
@@ -30,7 +26,7 @@ fn apply(rule: &mut Rule, law: usize, j: Key) -> Option<()> {
     match (law, kind, rule.nodes[&left], rule.nodes[&right]) {
         (1, CHOP, Leaf((TAU, ..)), _) => rule.redirect(j, right),
         (2, CHOP, _, Leaf((TAU, ..))) => rule.redirect(j, left),
-        (3, CHOP, Leaf((0..=3, ..)), _) => rule.redirect(j, left),
+        (3, CHOP, Leaf((q, ..)), _) if CONSTANT.contains(&q) => rule.redirect(j, left),
         (4, CHOP, Two(CHOP, a, b), _) => {
             put(rule, first, (CHOP, b, right));
             put(rule, j, (CHOP, a, first));

@@ -1,16 +1,30 @@
 //! Vetting and opening: rows 1 to 8, in rising number.
 use crate::case::{Case, Triple};
 use crate::free::free_variables;
-use crate::node::Node;
+use crate::node::{Node, Shape};
 use crate::refusal::Refusal;
 use std::ops::Range;
 
 const SECTIONS: usize = 3;
-const PAIRS_LENGTH: usize = 4 * SECTIONS;
-const LONGEST_CASE: usize = 6365;
-const MOST_STATES: usize = 16;
+/// The bytes of the head: an offset and a length for each section.
+pub const PAIRS_LENGTH: usize = 4 * SECTIONS;
 pub const MOST_NODES: usize = 64;
 const HIGHEST_ACTION: u8 = 7;
+
+/// How large a file may be. The format itself has room for more than a case may have.
+#[derive(Clone, Copy, Debug)]
+pub struct Limits {
+    pub longest_file: usize,
+    pub most_states: usize,
+}
+
+impl Limits {
+    /// Those of a case (docs/SPECIFICATION.md, 1.3 and 1.4).
+    pub const CASE: Limits = Limits {
+        longest_file: 6365,
+        most_states: 16,
+    };
+}
 
 /// The counts of states and nodes: n and m.
 pub fn vet(file: &[u8], section: usize) -> Result<(usize, usize), Refusal> {
@@ -22,29 +36,35 @@ pub fn vet(file: &[u8], section: usize) -> Result<(usize, usize), Refusal> {
 /// Where the section stands in the file.
 pub fn open(file: &[u8], section: usize) -> Result<Range<usize>, Refusal> {
     vet(file, section)?;
-    Ok(sections(file)?[section].clone())
+    Ok(sections(file, Limits::CASE)?[section].clone())
 }
 
 /// The case of a file that rows 1 to 7 do not meet.
 pub fn parse(file: &[u8]) -> Result<Case, Refusal> {
-    let [labels, steps, rule] = sections(file)?;
-    let labels = parse_labels(&file[labels])?;
+    parse_within(file, Limits::CASE)
+}
+
+/// The same where these limits stand in rows 1 and 2.
+pub fn parse_within(file: &[u8], limits: Limits) -> Result<Case, Refusal> {
+    let [labels, steps, rule] = sections(file, limits)?;
+    let labels = parse_labels(&file[labels], limits)?;
     let steps = parse_steps(&file[steps], labels.len())?;
-    let (triples, root) = parse_rule(&file[rule])?;
-    let nodes = read_nodes(&triples)?;
+    let (nodes, root) = parse_rule(&file[rule])?;
+    check_nodes(&nodes)?;
     check_binders(&nodes)?;
     check_closed(&nodes, usize::from(root))?;
     Ok(Case {
         labels,
         steps,
-        nodes: triples,
+        nodes,
         root,
     })
 }
 
 /// Row 1: the sections follow one another from the end of the pairs to the end of the file.
-fn sections(file: &[u8]) -> Result<[Range<usize>; SECTIONS], Refusal> {
-    Refusal::unless((PAIRS_LENGTH..=LONGEST_CASE).contains(&file.len()), 1, 0)?;
+fn sections(file: &[u8], limits: Limits) -> Result<[Range<usize>; SECTIONS], Refusal> {
+    let lengths = PAIRS_LENGTH..=limits.longest_file;
+    Refusal::unless(lengths.contains(&file.len()), 1, 0)?;
     let sections: [Range<usize>; SECTIONS] = std::array::from_fn(|section| pair(file, section));
     let mut end = PAIRS_LENGTH;
     for section in &sections {
@@ -63,8 +83,8 @@ fn pair(file: &[u8], section: usize) -> Range<usize> {
 }
 
 /// Row 2.
-fn parse_labels(section: &[u8]) -> Result<Vec<u8>, Refusal> {
-    Refusal::unless((1..=MOST_STATES).contains(&section.len()), 2, 0)?;
+fn parse_labels(section: &[u8], limits: Limits) -> Result<Vec<u8>, Refusal> {
+    Refusal::unless((1..=limits.most_states).contains(&section.len()), 2, 0)?;
     Ok(section.to_vec())
 }
 
@@ -93,16 +113,18 @@ fn parse_rule(section: &[u8]) -> Result<(Vec<Triple>, u8), Refusal> {
 }
 
 /// Row 5.
-fn read_nodes(triples: &[Triple]) -> Result<Vec<Node>, Refusal> {
-    let read = |(number, &triple)| Node::read(triple, number).ok_or(Refusal::new(5, number));
-    triples.iter().enumerate().map(read).collect()
+fn check_nodes(nodes: &[Triple]) -> Result<(), Refusal> {
+    for (number, &node) in nodes.iter().enumerate() {
+        Refusal::unless(Node::read(node, number).is_some(), 5, number)?;
+    }
+    Ok(())
 }
 
 /// Row 6: no variable has two binders, reached or not.
-fn check_binders(nodes: &[Node]) -> Result<(), Refusal> {
+fn check_binders(nodes: &[Triple]) -> Result<(), Refusal> {
     let mut bound = Vec::new();
-    for (number, node) in nodes.iter().enumerate() {
-        if let Some(variable) = node.bound() {
+    for (number, &node) in nodes.iter().enumerate() {
+        if let Some(variable) = Shape::of(node).bound() {
             Refusal::unless(!bound.contains(&variable), 6, number)?;
             bound.push(variable);
         }
@@ -111,10 +133,39 @@ fn check_binders(nodes: &[Node]) -> Result<(), Refusal> {
 }
 
 /// Row 7.
-fn check_closed(nodes: &[Node], root: usize) -> Result<(), Refusal> {
+fn check_closed(nodes: &[Triple], root: usize) -> Result<(), Refusal> {
     Refusal::unless(free_variables(nodes, root).is_empty(), 7, 0)
 }
 
 fn triples(bytes: &[u8]) -> Vec<Triple> {
     bytes.chunks_exact(3).map(|t| (t[0], t[1], t[2])).collect()
+}
+
+#[cfg(test)]
+mod tests {
+    use super::*;
+    use crate::case::write;
+
+    /// A state more than a case may have, and a file as long as the limit or longer.
+    #[test]
+    fn limits_are_those_given() {
+        let case = Case {
+            labels: vec![0; 17],
+            steps: vec![(16, 0, 16)],
+            nodes: vec![(5, 0, 0)],
+            root: 0,
+        };
+        let file = write(&case);
+        let within = |longest_file, most_states| {
+            let limits = Limits {
+                longest_file,
+                most_states,
+            };
+            parse_within(&file, limits)
+        };
+        assert_eq!(parse(&file), Err(Refusal::new(2, 0)));
+        assert_eq!(within(file.len(), 17), Ok(case));
+        assert_eq!(within(file.len(), 16), Err(Refusal::new(2, 0)));
+        assert_eq!(within(file.len() - 1, 17), Err(Refusal::new(1, 0)));
+    }
 }

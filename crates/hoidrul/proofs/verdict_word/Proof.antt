@@ -2,7 +2,7 @@
 use borrow.Author.Needs.{needs}
 use native.Mathlib.Omega.{arith}
 use mathlib.Core.Path.{subst}
-use Rattle.judge.specs.Told.{told}
+use Rattle.judge.specs.EnumNumbers.{judgedReply}
 use Rattle.hoidrul.specs.Packing.{Fits, Brief}
 use Rattle.hoidrul.proofs.verdict_word.Statement.{statement}
 use Rattle.hoidrul.proofs.verdict_word.Tie as tie
@@ -15,19 +15,19 @@ cast-result c = search needs
 
 mul-result : tie.Need-mul-result
 mul-result c =
-    let h = subst (λ x. Fits Brief (told x)) (c .before .before .judged .given .1) (c .before .before .before .before .pre) in
+    let h = subst (λ x. Fits Brief (judgedReply x)) (c .before .before .judged .given .1) (c .before .before .before .before .pre) in
     omega (arith, h)
 
 add-result : tie.Need-add-result
 add-result c =
-    let h = subst (λ x. Fits Brief (told x)) (c .before .before .judged .given .1) (c .before .before .before .before .pre) in
+    let h = subst (λ x. Fits Brief (judgedReply x)) (c .before .before .judged .given .1) (c .before .before .before .before .pre) in
     omega (arith, h)
 
 enum-known-judged-2 : tie.Need-enum-known-judged-2
 enum-known-judged-2 c = search needs
 
 refused-requires : tie.Need-refused-requires
-refused-requires c κs = subst (λ x. Fits Brief (told x)) (c .before .judged2 .given .1) (c .before .before .before .pre)
+refused-requires c κs = subst (λ x. Fits Brief (judgedReply x)) (c .before .judged2 .given .1) (c .before .before .before .pre)
 
 returns : tie.Need-returns
 returns c = rw (c .before .before .judged .given .1)

@@ -5,7 +5,7 @@ use Prim.Native.Nat.{ℕ, _%_, _^_, _≤_}
 use mathlib.Core.Path.{_≡_}
 use native.Mathlib.Nat.{one-mul, mod-eq-of-lt}
 use lib.Pow.{pow-pos, pow-mono}
-use Rattle.case_model.specs.Rows.{mostStates}
+use Rattle.case_model.specs.Limits.{mostStates}
 use Rattle.judge_case.proofs.States.{all-states}
 use Rattle.judge_case.proofs.all_states.Statement.{statement}
 use Rattle.judge_case.proofs.all_states.Tie as tie

@@ -1,7 +1,8 @@
 -- `judge_case::refusal_page` meets its contract: one line, number and place.
 use native.Mathlib.Omega.{arith}
 use Rattle.judge_case.specs.Printed.{space, printed}
-use Rattle.judge_case.proofs.Texts.{numeral-short, line-short, grew-after, shows}
+use Rattle.case_model.proofs.Laying.{laid-after}
+use Rattle.judge_case.proofs.Texts.{numeral-short, line-short, shows}
 use borrow.Author.Needs.{needs}
 use Rattle.judge_case.proofs.refusal_page.Statement.{statement}
 use Rattle.judge_case.proofs.refusal_page.Tie as tie
@@ -25,7 +26,7 @@ slice-aggregate-line : tie.Need-slice-aggregate-line
 slice-aggregate-line c = search needs
 
 line-requires : tie.Need-line-requires
-line-requires c κs = omega (arith, c .before .number2 .ensures .long, c .before .before .text .ensures .long, c .before .before .before .before .new .ensures, numeral-short (c .before .before .before .before .before .number .result))
+line-requires c κs = omega (arith, c .before .number2 .ensures .ends, c .before .before .text .ensures .ends, c .before .before .before .before .new .ensures .none, numeral-short (c .before .before .before .before .before .number .result))
 
 returns : tie.Need-returns
 unfolding printed
@@ -34,8 +35,8 @@ returns c =
     let number = c .before .before .number2 .ensures in
     let empty = c .before .before .before .before .before .new .ensures in
     rw (← c .before .before .before .before .before .before .number .ensures)
-    (shows empty (grew-after words (grew-after number (c .line .ensures)))
-    (omega (arith, empty, words .long, number .long, c .line .ensures .long, line-short space (c .before .before .before .before .before .before .before .args .refusal .place), numeral-short (c .before .before .before .before .before .before .number .result))))
+    (shows empty (laid-after words (laid-after number (c .line .ensures)))
+    (omega (arith, empty .none, words .ends, number .ends, c .line .ensures .ends, line-short space (c .before .before .before .before .before .before .before .args .refusal .place), numeral-short (c .before .before .before .before .before .before .number .result))))
 
 pub refusal-page-spec : {M : Type 1} → statement M
 refusal-page-spec =

@@ -3,7 +3,8 @@ use mathlib.Core.Path.{_≡_, ap}
 use Prim.Native.Nat.{_+_, _-_, _*_, _≤_}
 use native.Mathlib.Omega.{arith}
 use Rattle.judge_case.specs.Printed.{states, rounds, lines, printed, Grew}
-use Rattle.judge_case.proofs.Texts.{line-short, state-short, one-state, grew-none, grew-as, grew-after, shows}
+use Rattle.case_model.proofs.Laying.{laid-after, laid-as, laid-none}
+use Rattle.judge_case.proofs.Texts.{line-short, state-short, one-state, shows}
 use borrow.Author.Needs.{needs}
 use Rattle.judge_case.proofs.verdict_page.Statement.{statement}
 use Rattle.judge_case.proofs.verdict_page.Tie as tie
@@ -28,11 +29,11 @@ slice-aggregate-line-2 : tie.Need-slice-aggregate-line-2 Inv-loop μ-loop
 slice-aggregate-line-2 c = search needs
 
 line-requires-2 : tie.Need-line-requires-2 Inv-loop μ-loop
-line-requires-2 c κs = omega (arith, c .before .line .ensures .long, c .before .before .before .new .ensures, line-short states (c .before .before .before .before .args .states))
+line-requires-2 c κs = omega (arith, c .before .line .ensures .ends, c .before .before .before .new .ensures .none, line-short states (c .before .before .before .before .args .states))
 
 loop-holds : tie.Need-loop-holds Inv-loop μ-loop
 unfolding lines
-loop-holds c = (grew-none _ (c .line2 .ensures .room), omega arith, omega arith)
+loop-holds c = (laid-none _ _, omega arith, omega arith)
 
 holds-requires : tie.Need-holds-requires Inv-loop μ-loop
 holds-requires c κs = search needs
@@ -42,7 +43,7 @@ state-requires c κs =
     let start = c .before .before .before .before .before .before .before .before in
     let first = c .before .before .before .before .before .line .ensures in
     let second = c .before .before .before .line2 .ensures in
-    omega (arith, start .pre, c .before .before .before .before .before .before .before .new .ensures, first .long, second .long, line-short states (start .args .states), line-short rounds (start .args .verdict .rounds), c .before .before .loop .inv .1, c .before .loop-test .taken)
+    omega (arith, start .pre, c .before .before .before .before .before .before .before .new .ensures .none, first .ends, second .ends, line-short states (start .args .states), line-short rounds (start .args .verdict .rounds), c .before .before .loop .inv .1, c .before .loop-test .taken)
 
 add-s : tie.Need-add-s Inv-loop μ-loop
 add-s c = search needs
@@ -55,7 +56,7 @@ loop-again c =
     let (shown, long, below) = c .before .before .before .loop .inv in
     let v = c .before .before .before .before .before .before .before .before .before .args .verdict in
     let s = c .before .before .before .loop .s in
-    (one-state s (v .set) (c .before .holds .ensures) shown (c .state .ensures), omega (arith, c .state .ensures .long, state-short s (c .before .holds .result)), omega arith)
+    (one-state s (v .set) (c .before .holds .ensures) shown (c .state .ensures), omega (arith, c .state .ensures .ends, state-short s (c .before .holds .result)), omega arith)
 
 returns : tie.Need-returns Inv-loop μ-loop
 unfolding printed
@@ -66,8 +67,8 @@ returns c =
     let first = c .before .before .before .before .line .ensures in
     let second = c .before .before .line2 .ensures in
     let all : c .before .loop .s ≡ start .args .states = omega (arith, c .loop-test .left) in
-    shows empty (grew-after first (grew-after second (grew-as (ap (λ s. lines s (start .args .verdict .set)) all) shown)))
-    (omega (arith, start .pre, empty, first .long, second .long, line-short states (start .args .states), line-short rounds (start .args .verdict .rounds)))
+    shows empty (laid-after first (laid-after second (laid-as (ap (λ s. lines s (start .args .verdict .set)) all) shown)))
+    (omega (arith, start .pre, empty, first .ends, second .ends, line-short states (start .args .states), line-short rounds (start .args .verdict .rounds)))
 
 pub verdict-page-spec : {M : Type 1} → statement M
 verdict-page-spec =

@@ -2,51 +2,52 @@
 use super::{beyond, damaged, Damaged};
 use crate::generate::{case, case_where, drawn_where};
 use crate::rng::Rng;
-use plain::{write, Case};
+use plain::kinds::{self, values_of_a};
+use plain::{write, Case, Shape, Triple};
 
-/// The numbers of the nodes of these kinds.
-fn of_kinds(case: &Case, kinds: &[u8]) -> Vec<usize> {
+/// The numbers of the nodes that are wanted.
+fn nodes_where(case: &Case, wanted: impl Fn(Triple) -> bool) -> Vec<usize> {
     let all = 0..case.nodes.len();
-    all.filter(|&j| kinds.contains(&case.nodes[j].0)).collect()
+    all.filter(|&j| wanted(case.nodes[j])).collect()
 }
 
-/// A case and the number of one of its nodes of these kinds.
-fn with_node(rng: &mut Rng, kinds: &[u8]) -> (Case, usize) {
-    let case = case_where(rng, |case| !of_kinds(case, kinds).is_empty());
-    let node = rng.pick(&of_kinds(&case, kinds));
+/// A case and the number of one of its nodes that are wanted.
+fn with_node(rng: &mut Rng, wanted: fn(Triple) -> bool) -> (Case, usize) {
+    let case = case_where(rng, |case| !nodes_where(case, wanted).is_empty());
+    let node = rng.pick(&nodes_where(&case, wanted));
     (case, node)
 }
 
 pub fn kind(rng: &mut Rng) -> Damaged {
     let mut case = case(rng);
     let place = rng.below(case.nodes.len());
-    case.nodes[place].0 = beyond(rng, 13);
+    case.nodes[place].0 = beyond(rng, kinds::COUNT);
     damaged(write(&case), 5, place)
 }
 
 pub fn unused_byte(rng: &mut Rng) -> Damaged {
-    let (mut case, place) = with_node(rng, &[0, 1, 2, 3, 4, 5, 6, 7]);
+    let (mut case, place) = with_node(rng, |node| Shape::of(node) == Shape::Leaf);
     let node = &mut case.nodes[place];
-    let only_a = matches!(node.0, 0 | 1 | 5) && rng.one_in(2);
-    let unused = if only_a { &mut node.1 } else { &mut node.2 };
+    let is_a = values_of_a(node.0) == Some(1) && rng.one_in(2);
+    let unused = if is_a { &mut node.1 } else { &mut node.2 };
     *unused = beyond(rng, 1);
     damaged(write(&case), 5, place)
 }
 
 /// A proposition, variable or action beyond the last one.
 pub fn range(rng: &mut Rng) -> Damaged {
-    let (mut case, place) = with_node(rng, &[2, 3, 4, 6, 7, 11, 12]);
+    let (mut case, place) = with_node(rng, |node| matches!(values_of_a(node.0), Some(2..)));
     let node = &mut case.nodes[place];
-    let limit = if matches!(node.0, 4 | 11 | 12) { 16 } else { 8 };
-    node.1 = beyond(rng, limit);
+    let values = values_of_a(node.0).expect("A is no node");
+    node.1 = beyond(rng, values);
     damaged(write(&case), 5, place)
 }
 
 /// A node that names itself or a higher one.
 pub fn named(rng: &mut Rng) -> Damaged {
-    let (mut case, place) = with_node(rng, &[8, 9, 10, 11, 12]);
+    let (mut case, place) = with_node(rng, |node| Shape::of(node) != Shape::Leaf);
     let node = &mut case.nodes[place];
-    let left = node.0 <= 10 && rng.one_in(2);
+    let left = matches!(Shape::of(*node), Shape::Two(..)) && rng.one_in(2);
     let named = if left { &mut node.1 } else { &mut node.2 };
     *named = beyond(rng, place);
     damaged(write(&case), 5, place)
@@ -54,7 +55,7 @@ pub fn named(rng: &mut Rng) -> Damaged {
 
 /// Of the binders that get the first one's variable, the lowest is the place.
 pub fn second_binder(rng: &mut Rng) -> Damaged {
-    let binders = |case: &Case| of_kinds(case, &[11, 12]);
+    let binders = |case: &Case| nodes_where(case, |node| Shape::of(node).bound().is_some());
     let mut case = case_where(rng, |case| binders(case).len() > 1);
     let binders = binders(&case);
     let first = rng.below(binders.len() - 1);

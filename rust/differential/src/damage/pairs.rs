@@ -2,7 +2,7 @@
 use super::{damaged, Damaged};
 use crate::generate::case;
 use crate::rng::Rng;
-use plain::{pack, write};
+use plain::{pack, write, PAIRS_LENGTH};
 
 pub fn cut(rng: &mut Rng) -> Damaged {
     let mut file = write(&case(rng));
@@ -51,12 +51,13 @@ pub fn wrapped(rng: &mut Rng) -> Damaged {
     let case = case(rng);
     let body = [case.labels.clone(), rng.bytes(193)].concat();
     let mut file = pack(&[&body, &[], &[]]);
-    let steps = 12 + case.labels.len() as u16;
-    let length = 12_u16.wrapping_sub(steps);
-    file[2..4].copy_from_slice(&(steps - 12).to_le_bytes());
+    let labels = PAIRS_LENGTH as u16;
+    let steps = labels + case.labels.len() as u16;
+    let length = labels.wrapping_sub(steps);
+    file[2..4].copy_from_slice(&(steps - labels).to_le_bytes());
     file[4..6].copy_from_slice(&steps.to_le_bytes());
     file[6..8].copy_from_slice(&length.to_le_bytes());
-    file[8..10].copy_from_slice(&12_u16.to_le_bytes());
+    file[8..10].copy_from_slice(&labels.to_le_bytes());
     file[10..12].copy_from_slice(&(body.len() as u16).to_le_bytes());
     damaged(file, 1, 0)
 }

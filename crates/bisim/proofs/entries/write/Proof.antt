@@ -1,26 +1,25 @@
 -- `bisim::entries::write` meets its contract. The loop's invariant: the bytes below s are written, the others are as they were.
 use borrow.Author.Needs.{needs}
-use mathlib.Core.List.{_++_}
-use mathlib.Core.Path.{_≡_, refl, _∙_}
+use mathlib.Core.Path.{_≡_}
 use Prim.Native.Nat.{_-_, _≤_}
 use native.Mathlib.Omega.{arith}
-use lib.ListN.{length, drop, length-set}
 use Rattle.flc.specs.Sets.{first}
 use Rattle.flc.proofs.Tests.{first-le}
 use Rattle.case_model.specs.Bytes.{listOf}
 use Rattle.bisimilarity.specs.Relations.{related}
-use Rattle.bisim.proofs.Filling.{put-none, put-more}
+use Rattle.case_model.specs.Areas.{Laid}
+use Rattle.case_model.proofs.Laying.{laid-none, laid-element}
 use Rattle.bisim.proofs.entries.write.Statement.{statement}
 use Rattle.bisim.proofs.entries.write.Tie as tie
 
 abbrev Inv-loop : tie.InvT-loop
-Inv-loop rows n out₀ s₀ out s = (s ≤ n) × (length out ≡ length out₀) × (out ≡ listOf s (λ u. first (related rows u) 0 u) ++ drop s out₀)
+Inv-loop rows n out₀ s₀ out s = (s ≤ n) × Laid out₀ out 0 s (listOf s (λ u. first (related rows u) 0 u))
 
 abbrev μ-loop : tie.MeasureT-loop
 μ-loop rows n out₀ s₀ out s = n - s
 
 loop-holds : tie.Need-loop-holds Inv-loop μ-loop
-loop-holds c = (omega arith, refl, put-none _ _)
+loop-holds c = (omega arith, unfold listOf in laid-none _ 0)
 
 lowest-requires : tie.Need-lowest-requires Inv-loop μ-loop
 lowest-requires c κs = search needs
@@ -42,19 +41,16 @@ loop-less c = omega arith
 loop-again : tie.Need-loop-again Inv-loop μ-loop
 loop-again c =
     let rows = c .before .before .before .before .args .rows in
-    let done = c .before .before .loop .inv in (
-      omega arith,
-      simp length-set (done .1),
-      rw (done .2, c .lowest .ensures) (put-more (c .before .before .loop .s) (λ u. first (related rows u) 0 u) _ (omega arith)),
-    )
+    let s = c .before .before .loop .s in
+    (omega arith, laid-element (λ u. first (related rows u) 0 u) s (c .before .before .loop .inv .1) (c .lowest .ensures))
 
 same-length : tie.Need-same-length Inv-loop μ-loop
-same-length c = c .before .loop .inv .1
+same-length c = c .before .loop .inv .1 .long
 
 returns : tie.Need-returns Inv-loop μ-loop
 returns c =
     let e : c .before .loop .s ≡ c .before .before .before .args .n = omega arith in
-    c .before .loop .inv .2 ∙ rw e
+    rw (← e) (c .before .loop .inv .1)
 
 pub write-spec : {M : Type 1} → statement M
 write-spec =

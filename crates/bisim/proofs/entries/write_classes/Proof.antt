@@ -3,6 +3,7 @@ use borrow.Author.Needs.{needs}
 use mathlib.Core.Path.{_∙_}
 use native.Mathlib.Omega.{arith}
 use lib.ListN.{length}
+use Rattle.case_model.specs.Limits.{standard}
 use Rattle.case_model.proofs.Valid.{accepted-valid}
 use Rattle.bisim.proofs.Answering.{served-within, classing-short, classing-whole}
 use Rattle.bisim.proofs.entries.write_classes.Statement.{statement}
@@ -15,7 +16,7 @@ served-requires : tie.Need-served-requires
 served-requires c κs = search needs
 
 draw-requires : tie.Need-draw-requires
-draw-requires c κs = accepted-valid _ (c .before .before .before .before .pre)
+draw-requires c κs = accepted-valid standard _ (c .before .before .before .before .pre) .table
 
 alike-rows-requires : tie.Need-alike-rows-requires
 alike-rows-requires c κs = search needs
@@ -24,7 +25,7 @@ write-requires : tie.Need-write-requires
 write-requires c κs =
     let n = c .before .before .before .before .state-count in
     let w = served-within (n .result) (length (c .before .before .before .before .before .before .before .args .out .now)) (c .before .before .before .served .ensures) in
-    (omega (arith, w .0, n .ensures .is, accepted-valid _ (c .before .before .before .before .before .before .before .pre) .few), w .1)
+    (omega (arith, w .0, n .ensures .is, accepted-valid standard _ (c .before .before .before .before .before .before .before .pre) .table .few), w .1)
 
 refused-requires : tie.Need-refused-requires
 refused-requires c κs = search needs

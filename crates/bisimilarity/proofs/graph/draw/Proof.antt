@@ -10,11 +10,11 @@ state-count-requires c κs = search needs
 labels-requires : tie.Need-labels-requires
 labels-requires c κs = search needs
 
-successors-requires : tie.Need-successors-requires
-successors-requires c κs = search needs
+step-rows-requires : tie.Need-step-rows-requires
+step-rows-requires c κs = search needs
 
 returns : tie.Need-returns
-returns c = drawn (c .before .before .before .before .pre) _ (c .before .before .state-count .ensures .is) (c .before .labels .ensures) (c .successors .ensures)
+returns c = drawn (c .before .before .before .before .pre) _ (c .before .before .state-count .ensures .is) (c .before .labels .ensures) (c .step-rows .ensures)
 
 pub draw-spec : {M : Type 1} → statement M
-draw-spec = tie.close (tie.spec state-count-requires labels-requires successors-requires returns)
+draw-spec = tie.close (tie.spec state-count-requires labels-requires step-rows-requires returns)

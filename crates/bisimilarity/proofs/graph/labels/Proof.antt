@@ -1,22 +1,23 @@
 -- `bisimilarity::graph::labels` meets its contract. The loop's invariant: the entries below s are the labels.
 use borrow.Author.Needs.{needs}
-use mathlib.Core.Path.{refl}
 use Prim.Native.Nat.{_-_, _≤_}
 use native.Mathlib.Omega.{arith}
-use lib.ListN.{getD}
+use lib.ListN.{getD, replicate}
 use Rattle.case_model.specs.Case.{read}
-use Rattle.bisimilarity.proofs.Filling.{Filled, fill-none, fill-more, fill-list}
+use Rattle.case_model.specs.Areas.{Filled}
+use Rattle.case_model.proofs.Filling.{front-none, front-more}
+use Rattle.bisimilarity.proofs.Drawing.{labels-filled}
 use Rattle.bisimilarity.proofs.graph.labels.Statement.{statement}
 use Rattle.bisimilarity.proofs.graph.labels.Tie as tie
 
 abbrev Inv-loop : tie.InvT-loop
-Inv-loop file table₀ s₀ table s = (s ≤ 16) × Filled 16 s (λ u. getD (read file .labels) u 0) table
+Inv-loop file table₀ s₀ table s = (s ≤ 16) × Filled (replicate 16 0) table 0 s (λ u. getD (read file .labels) u 0)
 
 abbrev μ-loop : tie.MeasureT-loop
 μ-loop file table₀ s₀ table s = 16 - s
 
 loop-holds : tie.Need-loop-holds Inv-loop μ-loop
-loop-holds c = (omega arith, fill-none _ _ refl)
+loop-holds c = (omega arith, front-none _ _)
 
 label-requires : tie.Need-label-requires Inv-loop μ-loop
 label-requires c κs = search needs
@@ -34,10 +35,10 @@ loop-less : tie.Need-loop-less Inv-loop μ-loop
 loop-less c = omega arith
 
 loop-again : tie.Need-loop-again Inv-loop μ-loop
-loop-again c = (omega arith, fill-more (c .before .before .loop .inv .1) (c .before .loop-test .taken) (c .label .ensures .is))
+loop-again c = (omega arith, front-more (c .before .before .loop .inv .1) (c .before .loop-test .taken) (c .label .ensures .is))
 
 returns : tie.Need-returns Inv-loop μ-loop
-returns c = fill-list (read (c .before .before .before .args .file .now) .labels) (c .before .loop .inv .1) (c .loop-test .left) (c .before .before .before .pre .few)
+returns c = labels-filled (read (c .before .before .before .args .file .now) .labels) (c .before .loop .inv .1) (c .loop-test .left) (c .before .before .before .pre .few)
 
 pub labels-spec : {M : Type 1} → statement M
 labels-spec =

@@ -14,6 +14,7 @@ use borrow.Fn.PlainCycle.{Measures, is, falls, and}
 use Rattle.case_file.proofs.tests.bound_below.Reads as bound-below
 use Rattle.case_file.proofs.tests.bound_below.Kinds as bound-below-kinds
 use Rattle.case_file.proofs.tests.+bound_below.Lts-bound_below as bound-below-lts
+use Rattle.case_reader.proofs.is_binder.Reads as is-binder-reads
 use Rattle.case_reader.proofs.node.Reads as node-reads
 use Rattle.case_file.proofs.tests.+bound_below.{statement}
 use Rattle.case_file.proofs.tests.+bound_below.Tie.{close}
@@ -34,6 +35,8 @@ bound-below-returns : (t : ℕ) → bound-below-lts.Need-returns (
   node-reads.Learnt,
   bound-below-below t,
   bound-below.Post,
+  is-binder-reads.Asked,
+  is-binder-reads.Learnt,
 ) (bound-below-at t) bound-below.Post
 unfolding forSome
 bound-below-returns t c = rw (c .if1 .taken)
@@ -43,6 +46,8 @@ bound-below-sub-i : (t : ℕ) → bound-below-lts.Need-sub-i (
   node-reads.Learnt,
   bound-below-below t,
   bound-below.Post,
+  is-binder-reads.Asked,
+  is-binder-reads.Learnt,
 ) (bound-below-at t) bound-below.Post
 bound-below-sub-i t c = search needs
 
@@ -51,6 +56,8 @@ bound-below-node-requires : (t : ℕ) → bound-below-lts.Need-node-requires (
   node-reads.Learnt,
   bound-below-below t,
   bound-below.Post,
+  is-binder-reads.Asked,
+  is-binder-reads.Learnt,
 ) (bound-below-at t) bound-below.Post
 bound-below-node-requires t c κs = search needs
 
@@ -59,21 +66,35 @@ bound-below-bound-below-requires : (t : ℕ) → bound-below-lts.Need-bound-belo
   node-reads.Learnt,
   bound-below-below t,
   bound-below.Post,
+  is-binder-reads.Asked,
+  is-binder-reads.Learnt,
 ) (bound-below-at t) bound-below.Post
 bound-below-bound-below-requires t c κs = omega arith
+
+bound-below-is-binder-requires : (t : ℕ) → bound-below-lts.Need-is-binder-requires (
+  node-reads.Asked,
+  node-reads.Learnt,
+  bound-below-below t,
+  bound-below.Post,
+  is-binder-reads.Asked,
+  is-binder-reads.Learnt,
+) (bound-below-at t) bound-below.Post
+bound-below-is-binder-requires t c κs = search needs
 
 bound-below-returns-2 : (t : ℕ) → bound-below-lts.Need-returns-2 (
   node-reads.Asked,
   node-reads.Learnt,
   bound-below-below t,
   bound-below.Post,
+  is-binder-reads.Asked,
+  is-binder-reads.Learnt,
 ) (bound-below-at t) bound-below.Post
 unfolding forSome either
 bound-below-returns-2 t c =
     let at = c .before .before .before in
     let a = at .before .before .before .args in
     let bound : ℕ → Bool = λ i. binds (spec.at (read (a .file .now) .nodes) i) (a .v) in
-    rw (c .before .before .bound-below .ensures)
+    rw (c .before .before .bound-below .ensures, c .before .is-binder .ensures)
     (ap (λ x. forSome (a .j - 1) bound || binds x (a .v)) (at .node .ensures .is)
     ∙ sym (peel (λ j. forSome j bound) (a .j) (at .before .if1 .left)))
 
@@ -83,6 +104,8 @@ pub +bound-below-spec : {M : Type 1} → statement M
   node-reads.Learnt,
   bound-below-below t,
   bound-below.Post,
+  is-binder-reads.Asked,
+  is-binder-reads.Learnt,
 )
     (bound-below-at t)
     bound-below.Post
@@ -90,4 +113,5 @@ pub +bound-below-spec : {M : Type 1} → statement M
     (bound-below-sub-i t)
     (bound-below-node-requires t)
     (bound-below-bound-below-requires t)
+    (bound-below-is-binder-requires t)
     (bound-below-returns-2 t)

@@ -3,7 +3,8 @@ use borrow.Author.Needs.{needs}
 use Prim.Native.Nat.{_≤_, _-_, _+_, _*_}
 use mathlib.Core.Path.{_≡_, refl, sym, ap, _∙_}
 use native.Mathlib.Omega.{arith}
-use Rattle.case_model.specs.Bytes.{sections, chained}
+use Rattle.case_model.specs.Bytes.{chained}
+use Rattle.case_model.specs.Limits.{sections}
 use Rattle.case_reader.proofs.Readers.{there}
 use Rattle.case_file.proofs.Chain.{chained-step, chained-broken, chained-end}
 use Rattle.case_file.proofs.tests.chained.Statement.{statement}

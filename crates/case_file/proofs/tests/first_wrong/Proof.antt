@@ -6,7 +6,7 @@ use native.Mathlib.Omega.{arith}
 use Rattle.flc.specs.Sets.{first}
 use Rattle.flc.proofs.Tests.{first-zero, first-hit, first-miss, first-end}
 use Rattle.case_model.specs.Case.{read}
-use Rattle.case_file.specs.Told.{wrong}
+use Rattle.case_file.specs.VettingStages.{wrong}
 use Rattle.case_file.proofs.tests.first_wrong.Statement.{statement}
 use Rattle.case_file.proofs.tests.first_wrong.Tie as tie
 

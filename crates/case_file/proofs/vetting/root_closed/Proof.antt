@@ -2,7 +2,7 @@
 use borrow.Author.Needs.{needs}
 use native.Mathlib.Omega.{arith}
 use Rattle.case_model.specs.Case.{read, rule}
-use Rattle.case_model.proofs.Frees.{closed-empty}
+use Rattle.case_reader.proofs.FreeSets.{closed-empty}
 use Rattle.case_reader.proofs.Readers.{free-set}
 use Rattle.case_file.proofs.vetting.root_closed.Statement.{statement}
 use Rattle.case_file.proofs.vetting.root_closed.Tie as tie

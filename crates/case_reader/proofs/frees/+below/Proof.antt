@@ -5,9 +5,10 @@ use native.Mathlib.Omega.{arith}
 use mathlib.Core.List.{List}
 use mathlib.Core.Path.{sym, ap, _∙_}
 use lib.ListN.{set}
-use Rattle.case_model.specs.Case as spec
-use Rattle.case_model.specs.Case.{Triple, read}
-use Rattle.case_model.proofs.Frees.{maskOf, masks}
+use Rattle.flc.specs.Nodes.{Node}
+use Rattle.case_model.specs.Case.{read, nodeAt}
+use Rattle.case_model.specs.Kinds.{nodeOf}
+use Rattle.case_reader.specs.NodeSets.{maskOf, masks}
 use Rattle.case_reader.proofs.Readers.{peel}
 use borrow.Fn.Kinds.{In}
 use borrow.Fn.PlainCycle.{Measures, is, falls, and}
@@ -106,14 +107,15 @@ below-returns-2 : (t : ℕ) → below-lts.Need-returns-2 (
   mask-of-reads.Asked,
   mask-of-reads.Learnt,
 ) (below-at t) below.Post
+unfolding nodeAt
 below-returns-2 t c =
     let at = c .before .before in
     let a = at .before .before .before .args in
     let t : List ℕ = at .below .result in
-    let N : List Triple = read (a .file .now) .nodes in
+    let N : ℕ → Node = nodeAt (read (a .file .now)) in
     let i : ℕ = a .j - 1 in
-    ap (set t i) (c .mask-of .ensures) ∙ ap (λ x. set t i (maskOf t x)) (c .before .node .ensures .is)
-    ∙ ap (λ t. set t i (maskOf t (spec.at N i))) (at .below .ensures)
+    ap (set t i) (c .mask-of .ensures) ∙ ap (λ x. set t i (maskOf t (nodeOf x))) (c .before .node .ensures .is)
+    ∙ ap (λ t. set t i (maskOf t (N i))) (at .below .ensures)
     ∙ sym (peel (masks N) (a .j) (at .before .if1 .left))
 
 pub +below-spec : {M : Type 1} → statement M

@@ -1,17 +1,27 @@
 -- `case_reader::frees::mask_of` meets its contract, by cases on the kind.
+use mathlib.Core.Path.{ap, ap₂, _∙_}
+use lib.Bits.{bitOr}
+use Rattle.case_reader.specs.NodeSets.{without, maskOf}
+use Rattle.case_reader.specs.Read.{triple}
+use Rattle.case_reader.proofs.Knowing.{by-kind}
 use borrow.Author.Needs.{needs}
-use borrow.Author.Tests.{eq-eqb, ne-eqb, le-leb, lt-leb}
 use Rattle.case_reader.proofs.frees.mask_of.Statement.{statement}
 use Rattle.case_reader.proofs.frees.mask_of.Tie as tie
+
+kind-of-requires : tie.Need-kind-of-requires
+kind-of-requires c κs = search needs
+
+enum-told : tie.Need-enum-told
+enum-told c = search needs
+
+enum-told-2 : tie.Need-enum-told-2
+enum-told-2 c = search needs
 
 single-requires : tie.Need-single-requires
 single-requires c κs = search needs
 
-returns : tie.Need-returns
-returns c = simp (eq-eqb _ _ (c .before .if1 .taken)) (c .single .ensures)
-
-returns-2 : tie.Need-returns-2
-returns-2 c = simp (ne-eqb _ _ (c .before .before .if1 .left), le-leb _ _ (c .if2 .taken))
+enum-told-3 : tie.Need-enum-told-3
+enum-told-3 c = search needs
 
 entry-requires : tie.Need-entry-requires
 entry-requires c κs = search needs
@@ -19,10 +29,8 @@ entry-requires c κs = search needs
 entry-requires-2 : tie.Need-entry-requires-2
 entry-requires-2 c κs = search needs
 
-returns-3 : tie.Need-returns-3
-returns-3 c =
-    let at = c .before .before in
-    simp (ne-eqb _ _ (at .before .before .before .before .if1 .left), lt-leb _ _ (at .before .before .if2 .left), le-leb _ _ (at .if3 .taken), c .before .entry .ensures, c .entry2 .ensures)
+enum-told-4 : tie.Need-enum-told-4
+enum-told-4 c = search needs
 
 entry-requires-3 : tie.Need-entry-requires-3
 entry-requires-3 c κs = search needs
@@ -30,25 +38,33 @@ entry-requires-3 c κs = search needs
 without-requires : tie.Need-without-requires
 without-requires c κs = search needs
 
-returns-4 : tie.Need-returns-4
-returns-4 c =
-    let at = c .before .before in
-    simp (ne-eqb _ _ (at .before .before .before .before .before .before .if1 .left), lt-leb _ _ (at .before .before .before .before .if2 .left), lt-leb _ _ (at .before .before .if3 .left), le-leb _ _ (at .if4 .taken), c .without .ensures, c .before .entry3 .ensures)
+returns : tie.Need-returns
+returns c = by-kind (triple (c .before .before .before .args .x)) (maskOf (c .before .before .before .args .t)) (c .enum-told .given .1) (c .before .before .kind-of .ensures)
 
-returns-5 : tie.Need-returns-5
-returns-5 c = simp (ne-eqb _ _ (c .before .before .before .before .before .before .if1 .left), lt-leb _ _ (c .before .before .before .before .if2 .left), lt-leb _ _ (c .before .before .if3 .left), lt-leb _ _ (c .if4 .left))
+returns-2 : tie.Need-returns-2
+returns-2 c = c .single .ensures ∙ by-kind (triple (c .before .before .before .before .args .x)) (maskOf (c .before .before .before .before .args .t)) (c .before .enum-told2 .given .1) (c .before .before .before .kind-of .ensures)
+
+returns-3 : tie.Need-returns-3
+returns-3 c = ap₂ bitOr (c .before .entry .ensures) (c .entry2 .ensures) ∙ by-kind (triple (c .before .before .before .before .before .args .x)) (maskOf (c .before .before .before .before .before .args .t)) (c .before .before .enum-told3 .given .1) (c .before .before .before .before .kind-of .ensures)
+
+returns-4 : tie.Need-returns-4
+returns-4 c = c .without .ensures ∙ ap (λ y. without y (c .before .before .before .before .before .args .x .1)) (c .before .entry3 .ensures) ∙ by-kind (triple (c .before .before .before .before .before .args .x)) (maskOf (c .before .before .before .before .before .args .t)) (c .before .before .enum-told4 .given .1) (c .before .before .before .before .kind-of .ensures)
 
 pub mask-of-spec : {M : Type 1} → statement M
 mask-of-spec =
     tie.close
     (tie.spec
+    kind-of-requires
+    enum-told
+    enum-told-2
     single-requires
-    returns
-    returns-2
+    enum-told-3
     entry-requires
     entry-requires-2
-    returns-3
+    enum-told-4
     entry-requires-3
     without-requires
-    returns-4
-    returns-5)
+    returns
+    returns-2
+    returns-3
+    returns-4)

@@ -3,7 +3,7 @@ use borrow.Author.Needs.{needs}
 use mathlib.Core.Path.{_∙_}
 use native.Mathlib.Omega.{arith}
 use Rattle.case_model.specs.Case.{read}
-use Rattle.case_model.proofs.Frees.{masks-sets}
+use Rattle.case_reader.proofs.FreeSets.{masks-sets}
 use Rattle.case_reader.specs.Read.{freeSets}
 use Rattle.case_reader.proofs.frees.masks.Statement.{statement}
 use Rattle.case_reader.proofs.frees.masks.Tie as tie

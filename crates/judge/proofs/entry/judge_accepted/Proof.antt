@@ -25,7 +25,7 @@ node-count-requires : tie.Need-node-count-requires
 node-count-requires c κs = search needs
 
 shl-size : tie.Need-shl-size
-shl-size c = let k = known c in omega (arith, k .valid .few)
+shl-size c = let k = known c in omega (arith, k .valid .table .few)
 
 returns : tie.Need-returns
 returns c =
@@ -44,7 +44,7 @@ mul-if2 c = search needs
 mul-if2-2 : tie.Need-mul-if2-2
 mul-if2-2 c =
     let k = known (c .before) in
-    omega (arith, mul-le-mul-right {m = 2 * c .before .node-count .result} {n = 128} ((1 * 2 ^ c .before .before .state-count .result) % 2 ^ 64) (omega (arith, k .valid .most)), pow-mono {j = 16} (k .valid .few))
+    omega (arith, mul-le-mul-right {m = 2 * c .before .node-count .result} {n = 128} ((1 * 2 ^ c .before .before .state-count .result) % 2 ^ 64) (omega (arith, k .valid .rule .most)), pow-mono {j = 16} (k .valid .table .few))
 
 returns-2 : tie.Need-returns-2
 returns-2 c =

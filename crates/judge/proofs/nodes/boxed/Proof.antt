@@ -4,9 +4,9 @@ use mathlib.Core.Path.{_≡_, sym, ap, _∙_, subst}
 use native.Mathlib.Omega.{arith}
 use lib.Pow.{pow-pos, pow-mono}
 use Rattle.flc.specs.Formula.{box, meanAtom}
-use Rattle.judge.specs.Tables.{Filled}
+use Rattle.case_model.specs.Areas.{Filled}
 use Rattle.judge.specs.Plans.{decoded}
-use Rattle.judge.proofs.Filling.{filled-over, filled-ext}
+use Rattle.case_model.proofs.Filling.{filled-over, filled-ext}
 use Rattle.judge.proofs.Modal.{Doubling, double-fits, box-start, box-turn}
 use borrow.Author.Needs.{needs}
 use Rattle.judge.proofs.nodes.boxed.Statement.{statement}

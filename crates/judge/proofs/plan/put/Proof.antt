@@ -3,7 +3,7 @@ use Prim.Native.Nat.{_-_}
 use mathlib.Core.Path.{refl}
 use native.Mathlib.Omega.{arith}
 use lib.ListN.{length, getD}
-use Rattle.judge.proofs.Filling.{Filling, filling-none, turn, filled}
+use Rattle.case_model.proofs.Filling.{Filling, filling-none, turn, filled}
 use borrow.Author.Needs.{needs}
 use Rattle.judge.proofs.plan.put.Statement.{statement}
 use Rattle.judge.proofs.plan.put.Tie as tie

@@ -1,17 +1,25 @@
--- `judge::refresh::begin` meets its contract: by the test of the two kinds.
-use mathlib.Core.Path.{refl, _∙_}
-use borrow.Author.Tests.{eq-eqb, ne-eqb}
+-- `judge::refresh::begin` meets its contract: by the test of the two directions.
+use mathlib.Core.Path.{refl, sym, _∙_}
+use Rattle.case_model.proofs.Filling.{filled-ext}
+use Rattle.case_model.specs.Areas.{from}
+use Rattle.judge.proofs.Settling.{begins-old, begins-anew}
 use borrow.Author.Needs.{needs}
 use Rattle.judge.proofs.refresh.begin.Statement.{statement}
 use Rattle.judge.proofs.refresh.begin.Tie as tie
 
+direction-requires : tie.Need-direction-requires
+direction-requires c κs = search needs
+
 returns : tie.Need-returns
-returns c = record {
-  long = refl;
-  inside = λ x k. simp (eq-eqb _ _ (c .if1 .taken));
-  under = λ p l. refl;
-  over = λ p l. refl;
-}
+returns c =
+    let st = c .before .before .before in
+    record {
+      long = refl;
+      inside = λ x k. sym (begins-old (st .args .least) _ (sym (c .before .direction .ensures) ∙ c .if1 .taken)
+          (st .args .size) (from (st .args .work .now) (st .args .here)) x);
+      under = λ p l. refl;
+      over = λ p l. refl;
+    }
 
 start-requires : tie.Need-start-requires
 start-requires c κs = search needs
@@ -24,13 +32,14 @@ same-length c = search needs
 
 returns-2 : tie.Need-returns-2
 returns-2 c =
-    let E = c .before .before .constant .ensures in
-    record {
-      long = E .long;
-      inside = λ x k. E .inside x k ∙ c .before .before .before .start .ensures ∙ simp (ne-eqb _ _ (c .before .before .before .before .before .if1 .left));
-      under = E .under;
-      over = E .over;
-    }
+    let st = c .before .before .before .before .before .before .before .before in
+    let at-constant = c .before .before in
+    let at-direction = c .before .before .before .before .before .before in
+    let at-if1 = c .before .before .before .before .before in
+    let at-start = c .before .before .before in
+    filled-ext (at-constant .constant .ensures) (λ x k. at-start .start .ensures
+    ∙ sym (begins-anew (st .args .least) _ (λ e. at-if1 .if1 .left (at-direction .direction .ensures ∙ e))
+    (st .args .size) (from (st .args .work .now) (st .args .here)) x))
 
 pub begin-spec : {M : Type 1} → statement M
-begin-spec = tie.close (tie.spec returns start-requires constant-requires same-length returns-2)
+begin-spec = tie.close (tie.spec direction-requires returns start-requires constant-requires same-length returns-2)

@@ -1,5 +1,4 @@
--- `judge::refresh::start` meets its contract: by the kind.
-use borrow.Author.Tests.{eq-eqb, ne-eqb}
+-- `judge::refresh::start` meets its contract: by the kind of the binder.
 use borrow.Author.Needs.{needs}
 use Rattle.judge.proofs.refresh.start.Statement.{statement}
 use Rattle.judge.proofs.refresh.start.Tie as tie
@@ -11,10 +10,10 @@ cast-result : tie.Need-cast-result
 cast-result c = search needs
 
 returns : tie.Need-returns
-returns c = simp (eq-eqb _ _ (c .if1 .taken))
+returns c = rw (c .if1 .taken)
 
 returns-2 : tie.Need-returns-2
-returns-2 c = simp (ne-eqb _ _ (c .if1 .left))
+returns-2 c = rw (c .if1 .left)
 
 pub start-spec : {M : Type 1} → statement M
 start-spec = tie.close (tie.spec sub-result cast-result returns returns-2)

@@ -1,13 +1,12 @@
 -- `judge::sets::homes` meets its contract: by recursion over the nodes: each call notes one node more.
-use Prim.Native.Nat.{ℕ, suc, _-_, _≤_, _<_}
-use mathlib.Core.Path.{_≡_, sym, ap, subst}
+use Prim.Native.Nat.{ℕ, suc, _-_, _<_}
+use mathlib.Core.Path.{_≡_, sym, subst}
 use native.Mathlib.Omega.{arith}
-use lib.ListN.{length, replicate}
-use Rattle.case_model.specs.Case.{Triple, read}
+use lib.ListN.{replicate}
+use Rattle.case_model.specs.Case.{read}
 use Rattle.judge.specs.Plans.{Housed}
-use Rattle.judge.proofs.Reached.{body-low}
 use Rattle.judge.proofs.Refreshing.{not-zero}
-use Rattle.judge.proofs.Surveying.{housed-none, housed-next}
+use Rattle.judge.proofs.Surveying.{housed-none, binds-low, housed-next}
 use borrow.Author.Needs.{needs}
 use borrow.Fn.Kinds.{In}
 use borrow.Fn.PlainCycle.{Measures, is, falls, and}
@@ -48,11 +47,7 @@ homes-node-requires t c κs = search needs
 homes-housed-requires : (t : ℕ) → homes-lts.Need-housed-requires (homes-claims t) (homes-at t) homes.Post
 homes-housed-requires t c κs =
     let st = c .before .before .before .before in
-    let j = st .args .k - 1 in
-    let h : j < length (read (st .args .file .now) .nodes) = omega (arith, st .pre .1 .1) in
-    let e = ap (λ (x : Triple). x .0) (c .node .ensures .is) in
-    let a = ap (λ (x : Triple). x .1) (c .node .ensures .is) in
-    λ l. omega (arith, body-low (st .pre .1 .0) j h (subst (λ k. 11 ≤ k) e l))
+    binds-low (st .pre .1 .0) (omega (arith, st .pre .1 .1)) (c .node .ensures)
 
 homes-returns-2 : (t : ℕ) → homes-lts.Need-returns-2 (homes-claims t) (homes-at t) homes.Post
 homes-returns-2 t c =

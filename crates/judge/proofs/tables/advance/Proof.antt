@@ -4,8 +4,9 @@ use mathlib.Core.Path.{refl, sym, _∙_}
 use native.Mathlib.Nat.{not-suc-le-zero}
 use native.Mathlib.Omega.{arith}
 use borrow.Author.Count.{below-more}
-use Rattle.judge.specs.Tables.{from}
-use Rattle.judge.proofs.Filling.{Filling, filling-none, before, after, turn, filled, Compared}
+use Rattle.case_model.specs.Areas.{from}
+use Rattle.case_model.proofs.Filling.{Filling, filling-none, before, after, turn, filled}
+use Rattle.judge.proofs.Comparing.{Compared}
 use Rattle.judge.proofs.Digits.{or-zero, xor-zero, zero-or-xor}
 use borrow.Author.Needs.{needs}
 use Rattle.judge.proofs.tables.advance.Statement.{statement}

@@ -1,8 +1,8 @@
 -- `judge::tables::copy` meets its contract: the loop fills one word a turn from above, which is not yet filled.
 use Prim.Native.Nat.{_-_}
 use native.Mathlib.Omega.{arith}
-use Rattle.judge.specs.Tables.{from}
-use Rattle.judge.proofs.Filling.{Filling, filling-none, before, after, turn, filled}
+use Rattle.case_model.specs.Areas.{from}
+use Rattle.case_model.proofs.Filling.{Filling, filling-none, before, after, turn, filled}
 use borrow.Author.Needs.{needs}
 use Rattle.judge.proofs.tables.copy.Statement.{statement}
 use Rattle.judge.proofs.tables.copy.Tie as tie

@@ -2,7 +2,7 @@
 use Prim.Native.Nat.{_-_}
 use mathlib.Core.Path.{refl}
 use native.Mathlib.Omega.{arith}
-use Rattle.judge.proofs.Filling.{Filling, filling-none, before, turn, filled}
+use Rattle.case_model.proofs.Filling.{Filling, filling-none, before, turn, filled}
 use borrow.Author.Needs.{needs}
 use Rattle.judge.proofs.tables.identity.Statement.{statement}
 use Rattle.judge.proofs.tables.identity.Tie as tie

@@ -3,8 +3,8 @@ use Prim.Native.Nat.{_+_, _-_}
 use mathlib.Core.Path.{ap}
 use native.Mathlib.Omega.{arith}
 use lib.Bits.{bitOr}
-use Rattle.judge.specs.Tables.{from}
-use Rattle.judge.proofs.Filling.{Filling, filling-none, before, turn, filled}
+use Rattle.case_model.specs.Areas.{from}
+use Rattle.case_model.proofs.Filling.{Filling, filling-none, before, turn, filled}
 use borrow.Author.Needs.{needs}
 use Rattle.judge.proofs.tables.widen.Statement.{statement}
 use Rattle.judge.proofs.tables.widen.Tie as tie

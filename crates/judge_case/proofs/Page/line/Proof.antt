@@ -1,6 +1,7 @@
 -- `judge_case::Page::line` meets its contract: a text, a number and the line end, one after the other.
 use native.Mathlib.Omega.{arith}
-use Rattle.judge_case.proofs.Texts.{numeral-short, grew-after}
+use Rattle.case_model.proofs.Laying.{laid-after}
+use Rattle.judge_case.proofs.Texts.{numeral-short}
 use borrow.Author.Needs.{needs}
 use Rattle.judge_case.proofs.Page.line.Statement.{statement}
 use Rattle.judge_case.proofs.Page.line.Tie as tie
@@ -15,10 +16,10 @@ slice-aggregate-text : tie.Need-slice-aggregate-text
 slice-aggregate-text c = search needs
 
 text-requires-2 : tie.Need-text-requires-2
-text-requires-2 c κs = omega (arith, c .before .number .ensures .long, c .before .before .text .ensures .long, numeral-short (c .before .before .before .before .args .n))
+text-requires-2 c κs = omega (arith, c .before .number .ensures .ends, c .before .before .text .ensures .ends, numeral-short (c .before .before .before .before .args .n))
 
 returns : tie.Need-returns
-returns c = grew-after (c .before .before .before .text .ensures) (grew-after (c .before .before .number .ensures) (c .text2 .ensures))
+returns c = laid-after (c .before .before .before .text .ensures) (laid-after (c .before .before .number .ensures) (c .text2 .ensures))
 
 pub line-spec : {M : Type 1} → statement M
 line-spec =

@@ -1,7 +1,8 @@
 -- `judge_case::Page::number` meets its contract: the digits are the numeral.
 use mathlib.Core.Path.{_∙_}
 use native.Mathlib.Omega.{arith}
-use Rattle.judge_case.proofs.Texts.{fewest, few-digits, grew-as}
+use Rattle.case_model.proofs.Laying.{laid-as}
+use Rattle.judge_case.proofs.Texts.{fewest, few-digits}
 use borrow.Author.Needs.{needs}
 use Rattle.judge_case.proofs.Page.number.Statement.{statement}
 use Rattle.judge_case.proofs.Page.number.Tie as tie
@@ -22,7 +23,7 @@ text-requires c κs =
 returns : tie.Need-returns
 returns c =
     let learnt = c .before .before .decimal .ensures in
-    grew-as (learnt .1 .1 ∙ fewest _ _ (few-digits _ _ (c .before .before .before .before .good .1 .0 .1) (learnt .1 .0)) (learnt .1 .0)) (c .text .ensures)
+    laid-as (learnt .1 .1 ∙ fewest _ _ (few-digits _ _ (c .before .before .before .before .good .1 .0 .1) (learnt .1 .0)) (learnt .1 .0)) (c .text .ensures)
 
 pub number-spec : {M : Type 1} → statement M
 number-spec =

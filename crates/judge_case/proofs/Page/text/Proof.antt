@@ -1,24 +1,27 @@
 -- `judge_case::Page::text` meets its contract: after i turns the page shows the first i bytes of the text after its own.
-use mathlib.Core.List.{_++_, append-nil}
 use mathlib.Core.Path.{_≡_, refl}
 use Prim.Native.Nat.{_+_, _-_, _≤_}
 use native.Mathlib.Nat.{add-zero}
 use native.Mathlib.Omega.{arith}
-use lib.ListN.{length, take}
-use Rattle.judge_case.proofs.Texts.{one-byte, all-of}
+use lib.ListN.{length, getD}
+use Rattle.case_model.specs.Areas.{Laid}
+use Rattle.case_model.specs.Bytes.{listOf}
+use Rattle.case_model.proofs.Lists.{listOf-getD}
+use Rattle.case_model.proofs.Laying.{laid-none, laid-as, laid-element}
 use borrow.Author.Needs.{needs}
 use Rattle.judge_case.proofs.Page.text.Statement.{statement}
 use Rattle.judge_case.proofs.Page.text.Tie as tie
 
 abbrev Inv-loop : tie.InvT-loop
 Inv-loop what base bytes₀ count i₀ bytes i =
-    (take (base + i) bytes ≡ take base bytes₀ ++ take i what) × (length bytes ≡ 512) × (i ≤ count)
+    Laid bytes₀ bytes base (base + i) (listOf i (λ u. getD what u 0)) × (length bytes ≡ 512) × (i ≤ count)
 
 abbrev μ-loop : tie.MeasureT-loop
 μ-loop what base bytes₀ count i₀ bytes i = count - i
 
 loop-holds : tie.Need-loop-holds Inv-loop μ-loop
-loop-holds c = (rw (add-zero, append-nil), search needs, omega arith)
+unfolding listOf
+loop-holds c = (rw add-zero (laid-none _ _), search needs, omega arith)
 
 shared-slice-read-bytes : tie.Need-shared-slice-read-bytes Inv-loop μ-loop
 shared-slice-read-bytes c = search needs
@@ -39,7 +42,9 @@ loop-again : tie.Need-loop-again Inv-loop μ-loop
 loop-again c =
     let a = c .before .before .before .before .args in
     let (shown, long, _) = c .before .before .loop .inv in
-    (one-byte (a .self .bytes) (c .before .before .loop .bytes) (a .what .now) (a .self .length) (c .before .before .loop .i) shown (omega arith) (omega arith), search needs, omega arith)
+    let i = c .before .before .loop .i in
+    let e : a .self .length + i + 1 ≡ a .self .length + (i + 1) = omega arith in
+    (rw (← e) (laid-element (λ u. getD (a .what .now) u 0) i shown refl), search needs, omega arith)
 
 add-t14 : tie.Need-add-t14 Inv-loop μ-loop
 add-t14 c = search needs
@@ -47,7 +52,9 @@ add-t14 c = search needs
 returns : tie.Need-returns Inv-loop μ-loop
 returns c =
     let (shown, long, below) = c .before .loop .inv in
-    record { is = all-of _ _ _ _ _ (length (c .before .before .before .args .what .now)) shown (omega arith) refl; long = refl; room = long }
+    let what = c .before .before .before .args .what .now in
+    let e : c .before .loop .i ≡ length what = omega arith in
+    laid-as (listOf-getD what 0) (rw e at shown)
 
 pub text-spec : {M : Type 1} → statement M
 text-spec =

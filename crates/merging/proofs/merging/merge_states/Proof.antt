@@ -3,7 +3,7 @@ use Prim.Native.Nat.{_≤_, _<_}
 use native.Mathlib.Omega.{arith}
 use borrow.Author.Tests.{not-true, not-false}
 use lib.ListN.{length}
-use Rattle.case_model.specs.Rows.{mostStates}
+use Rattle.case_model.specs.Limits.{mostStates, standard}
 use Rattle.case_model.proofs.Valid.{accepted-valid}
 use Rattle.merging.proofs.Replying.{inside, merging-beyond, merging-unlike, merging-alike}
 use borrow.Author.Needs.{needs}
@@ -19,17 +19,21 @@ refused-requires c κs = search needs
 returns : tie.Need-returns
 returns c =
     let a = c .before .before .before .before .before .args in
-    let e = merging-beyond (a .file .now) (a .s) (a .t) (length (a .out .now)) _ (c .before .before .before .before .before .pre) (c .before .before .state-count .ensures .is) (not-true _ (c .before .if1 .taken)) in
+    let e =
+    merging-beyond (a .file .now) (a .s) (a .t) (length (a .out .now)) _ (c .before .before .before .before .before .pre)
+    (c .before .before .state-count .ensures .is) (not-true _ (c .before .if1 .taken)) in
     record { says = rw (e, c .refused .ensures); leaves = rw e }
 
 -- both are states, of which there are at most 16
-at-inside : (c : tie.Else1) → (c .before .before .before .before .args .s < c .before .state-count .result) × (c .before .before .before .before .args .t < c .before .state-count .result) × (c .before .state-count .result ≤ mostStates)
+at-inside : (c : tie.Else1) → let n = c .before .state-count .result in let a = c .before .before .before .before .args in
+    (a .s < n) × (a .t < n) × (n ≤ mostStates)
 at-inside c =
     let a = c .before .before .before .before .args in
-    inside (a .file .now) (a .s) (a .t) (length (a .out .now)) _ (c .before .before .before .before .pre) (c .before .state-count .ensures .is) (not-false _ (c .if1 .left))
+    inside (a .file .now) (a .s) (a .t) (length (a .out .now)) _ (c .before .before .before .before .pre)
+    (c .before .state-count .ensures .is) (not-false _ (c .if1 .left))
 
 draw-requires : tie.Need-draw-requires
-draw-requires c κs = accepted-valid _ (c .before .before .before .before .pre)
+draw-requires c κs = accepted-valid standard _ (c .before .before .before .before .pre) .table
 
 alike-rows-requires : tie.Need-alike-rows-requires
 alike-rows-requires c κs = search needs
@@ -48,8 +52,13 @@ refused-requires-2 c κs = search needs
 
 returns-2 : tie.Need-returns-2
 returns-2 c =
-    let a = c .before .before .before .before .before .before .before .before .before .args in
-    let e = merging-unlike (a .file .now) (a .s) (a .t) (length (a .out .now)) _ (c .before .before .before .before .before .before .before .before .before .pre) (c .before .before .before .before .before .before .state-count .ensures .is) (not-false _ (c .before .before .before .before .before .if1 .left)) (c .before .before .before .before .draw .ensures) (c .before .before .before .alike-rows .ensures) (c .before .before .member .ensures) (not-true _ (c .before .if2 .taken)) in
+    let first = c .before .before .before .before .before in
+    let a = first .before .before .before .before .args in
+    let e =
+    merging-unlike (a .file .now) (a .s) (a .t) (length (a .out .now)) _ (first .before .before .before .before .pre)
+    (first .before .state-count .ensures .is) (not-false _ (first .if1 .left))
+    (c .before .before .before .before .draw .ensures) (c .before .before .before .alike-rows .ensures)
+    (c .before .before .member .ensures) (not-true _ (c .before .if2 .taken)) in
     record { says = rw (e, c .refused2 .ensures); leaves = rw e }
 
 of-requires : tie.Need-of-requires
@@ -57,17 +66,25 @@ of-requires c κs = search needs
 
 merge-pair-requires : tie.Need-merge-pair-requires
 merge-pair-requires c κs =
-    let (i, j, few) = at-inside (c .before .before .before .before .before .before) in
-    record { accepted = c .before .before .before .before .before .before .before .before .before .before .pre; states = c .before .before .before .before .before .before .before .state-count .ensures .is; kept = omega arith; removed = omega arith }
+    let first = c .before .before .before .before .before .before in
+    let (i, j, few) = at-inside first in
+    let states = first .before .state-count .ensures .is in
+    record { accepted = first .before .before .before .before .pre; states = states; kept = omega arith; removed = omega arith }
 
 same-length : tie.Need-same-length
 same-length c = search needs
 
 returns-3 : tie.Need-returns-3
 returns-3 c =
-    let a = c .before .before .before .before .before .before .before .before .before .before .before .before .before .args in
+    let second = c .before .before .before .before .before in
+    let first = second .before .before .before .before in
+    let a = first .before .before .before .before .args in
     let p = c .before .before .before .before .of .ensures in
-    let e = merging-alike (a .file .now) (a .s) (a .t) (length (a .out .now)) _ (c .before .before .before .before .before .before .before .before .before .before .before .before .before .pre) (c .before .before .before .before .before .before .before .before .before .before .state-count .ensures .is) (not-false _ (c .before .before .before .before .before .before .before .before .before .if1 .left)) (c .before .before .before .before .before .before .before .before .draw .ensures) (c .before .before .before .before .before .before .before .alike-rows .ensures) (c .before .before .before .before .before .before .member .ensures) (not-false _ (c .before .before .before .before .before .if2 .left)) (p .0) (p .1) in
+    let e =
+    merging-alike (a .file .now) (a .s) (a .t) (length (a .out .now)) _ (first .before .before .before .before .pre)
+    (first .before .state-count .ensures .is) (not-false _ (first .if1 .left))
+    (second .before .before .before .draw .ensures) (second .before .before .alike-rows .ensures)
+    (second .before .member .ensures) (not-false _ (second .if2 .left)) (p .0) (p .1) in
     record { says = rw e (c .before .before .merge-pair .ensures .0); leaves = rw e (c .before .before .merge-pair .ensures .1) }
 
 pub merge-states-spec : {M : Type 1} → statement M

@@ -1,4 +1,4 @@
--- `merging::merging::put_merged` meets its contract: the head, the labels in two parts, the steps and the rule, one after the other.
+-- `merging::merging::put_merged` meets its contract: the pairs, the labels in two parts, the steps and the rule, one after the other.
 use mathlib.Core.Path.{refl}
 use native.Mathlib.Omega.{arith}
 use Rattle.merging.proofs.MergedBytes.{fits, merged-laid}
@@ -15,15 +15,18 @@ section-offset-requires-2 c κs = search needs
 sub-above : tie.Need-sub-above
 sub-above c = search needs
 
-put-head-requires : tie.Need-put-head-requires
-put-head-requires c κs =
-    let m = c .before .before .before .before .before .before .pre .0 in
+slice-aggregate-put-pairs : tie.Need-slice-aggregate-put-pairs
+slice-aggregate-put-pairs c = search needs
+
+put-pairs-requires : tie.Need-put-pairs-requires
+put-pairs-requires c κs =
+    let m = c .before .before .before .before .before .before .before .pre .0 in
     let g = fits m in
     (omega arith, omega arith)
 
 put-part-requires : tie.Need-put-part-requires
 put-part-requires c κs =
-    let m = c .before .before .before .before .before .before .before .before .before .before .pre .0 in
+    let m = c .before .before .before .before .before .before .before .before .before .before .before .pre .0 in
     let g = fits m in
     (omega arith, omega arith)
 
@@ -35,19 +38,21 @@ add-put-part-2 c = search needs
 
 put-part-requires-2 : tie.Need-put-part-requires-2
 put-part-requires-2 c κs =
-    let m = c .before .before .before .before .before .before .before .before .before .before .before .before .before .before .pre .0 in
+    let m = c .before .before .before .before .before .before .before .before .before .before .before .before .before .before .before .pre .0 in
     let g = fits m in
     (omega arith, omega arith)
 
 put-steps-requires : tie.Need-put-steps-requires
 put-steps-requires c κs =
-    let m = c .before .before .before .before .before .before .before .before .before .before .before .before .before .before .before .before .before .before .pre .0 in
+    let b = c .before .before .before .before .before .before .before .before .before .before .before in
+    let m = b .before .before .before .before .before .before .before .before .pre .0 in
     let g = fits m in
     omega arith
 
 put-part-requires-3 : tie.Need-put-part-requires-3
 put-part-requires-3 c κs =
-    let m = c .before .before .before .before .before .before .before .before .before .before .before .before .before .before .before .before .before .before .before .before .before .before .pre .0 in
+    let b = c .before .before .before .before .before .before .before .before .before .before .before .before .before .before .before in
+    let m = b .before .before .before .before .before .before .before .before .pre .0 in
     let g = fits m in
     (omega arith, omega arith)
 
@@ -56,8 +61,14 @@ same-length c = search needs
 
 returns : tie.Need-returns
 returns c =
-    merged-laid (c .before .before .before .before .before .before .before .before .before .before .before .before .before .before .before .before .before .before .before .before .before .before .before .before .before .pre .0) _ _ _ refl (c .before .before .before .before .before .before .before .before .before .before .before .before .before .before .before .before .before .before .before .before .before .before .section-offset .ensures .is) (c .before .before .before .before .before .before .before .before .before .before .before .before .before .before .before .before .before .before .before .before .before .section-offset2 .ensures .is)
-    (c .before .before .before .before .before .before .before .before .before .before .before .before .before .before .before .before .before .before .put-head .ensures) (c .before .before .before .before .before .before .before .before .before .before .before .before .before .before .put-part .ensures .0) (c .before .before .before .before .before .before .before .before .before .before .put-part2 .ensures .0) (c .before .before .before .before .before .before .put-steps .ensures .0) (c .before .before .put-part3 .ensures .0)
+    let steps = c .before .before .before .before .before .before in
+    let labels = steps .before .before .before .before .before .before .before .before in
+    let pairs = labels .before .before .before .before in
+    let start = pairs .before .before .before .before .before .before .before .before in
+    merged-laid (start .pre .0) _ _ _ refl
+    (pairs .before .before .before .before .before .section-offset .ensures .is) (pairs .before .before .before .before .section-offset2 .ensures .is)
+    (pairs .put-pairs .ensures) (labels .put-part .ensures .0) (steps .before .before .before .before .put-part2 .ensures .0)
+    (steps .put-steps .ensures .0) (c .before .before .put-part3 .ensures .0)
 
 pub put-merged-spec : {M : Type 1} → statement M
 put-merged-spec =
@@ -66,7 +77,8 @@ put-merged-spec =
     section-offset-requires
     section-offset-requires-2
     sub-above
-    put-head-requires
+    slice-aggregate-put-pairs
+    put-pairs-requires
     put-part-requires
     add-put-part
     add-put-part-2

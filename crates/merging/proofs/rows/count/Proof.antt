@@ -4,7 +4,7 @@ use Prim.Native.Nat.{_+_, _-_, _≤_}
 use native.Mathlib.Omega.{arith}
 use lib.ListN.{length}
 use Rattle.case_model.specs.Merging.{inOrder}
-use Rattle.merging.specs.Relation.{relation}
+use Rattle.case_reader.specs.StepRows.{relation}
 use Rattle.merging.proofs.Relations.{counted, order-few}
 use borrow.Author.Needs.{needs}
 use Rattle.merging.proofs.rows.count.Statement.{statement}

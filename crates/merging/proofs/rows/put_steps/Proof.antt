@@ -5,9 +5,9 @@ use native.Mathlib.Omega.{arith}
 use Rattle.case_model.specs.Case.{flat}
 use Rattle.case_model.specs.Merging.{inOrder}
 use Rattle.case_model.proofs.Codec.{length-flat}
-use Rattle.merging.specs.Laid.{Laid}
-use Rattle.merging.specs.Relation.{relation}
-use Rattle.merging.proofs.Laying.{laid-none}
+use Rattle.case_model.specs.Areas.{Laid}
+use Rattle.case_reader.specs.StepRows.{relation}
+use Rattle.case_model.proofs.Laying.{laid-none}
 use Rattle.merging.proofs.Relations.{laid-turn, turn-room}
 use borrow.Author.Needs.{needs}
 use Rattle.merging.proofs.rows.put_steps.Statement.{statement}
@@ -27,7 +27,9 @@ is-step-requires : tie.Need-is-step-requires Inv-loop μ-loop
 is-step-requires c κs = search needs
 
 put-step-requires : tie.Need-put-step-requires Inv-loop μ-loop
-put-step-requires c κs = (omega arith, turn-room _ _ _ (c .before .before .loop-test .taken) (c .before .before .before .before .before .pre) (c .before .before .before .loop .inv .0) (c .before .is-step .ensures))
+put-step-requires c κs =
+    let (l, few) = c .before .before .before .loop .inv in
+    (omega arith, turn-room _ _ _ (c .before .before .loop-test .taken) (c .before .before .before .before .before .pre) l (c .before .is-step .ensures))
 
 add-x : tie.Need-add-x Inv-loop μ-loop
 add-x c = search needs
@@ -36,7 +38,9 @@ loop-less : tie.Need-loop-less Inv-loop μ-loop
 loop-less c = search needs
 
 loop-again : tie.Need-loop-again Inv-loop μ-loop
-loop-again c = (laid-turn _ _ _ (c .before .before .before .before .before .before .loop .inv .0) (c .before .before .before .before .is-step .ensures) (c .before .before .put-step .ensures), omega arith)
+loop-again c =
+    let (l, few) = c .before .before .before .before .before .before .loop .inv in
+    (laid-turn _ _ _ l (c .before .before .before .before .is-step .ensures) (c .before .before .put-step .ensures), omega arith)
 
 same-length : tie.Need-same-length Inv-loop μ-loop
 same-length c = c .before .loop .inv .0 .long

@@ -15,8 +15,10 @@ rename-requires c κs = search needs
 
 returns : tie.Need-returns
 returns c =
-    let p = c .before .before .before .before .before .args .plan in
-    c .rename .ensures ∙ ap (renamed (named (p .j) (p .shape))) (c .before .node .ensures .is) ∙ sym (node-low (c .before .before .before .before .before .pre .0) (c .before .before .before .before .before .args .i) (c .before .before .if1 .taken))
+    let start = c .before .before .before .before .before in
+    let p = start .args .plan in
+    c .rename .ensures ∙ ap (renamed (named (p .j) (p .shape))) (c .before .node .ensures .is)
+    ∙ sym (node-low (start .pre .0) (start .args .i) (c .before .before .if1 .taken))
 
 add-if2 : tie.Need-add-if2
 add-if2 c = search needs
@@ -26,7 +28,8 @@ place-requires c κs = search needs
 
 returns-2 : tie.Need-returns-2
 returns-2 c =
-    c .place .ensures ∙ sym (node-placed (c .before .before .before .before .before .before .pre .0) (c .before .before .before .before .before .before .args .i) (c .before .before .before .if1 .left) (c .before .if2 .taken))
+    let start = c .before .before .before .before .before .before in
+    c .place .ensures ∙ sym (node-placed (start .pre .0) (start .args .i) (c .before .before .before .if1 .left) (c .before .if2 .taken))
 
 sub-node : tie.Need-sub-node
 sub-node c = search needs
@@ -39,8 +42,10 @@ rename-requires-2 c κs = search needs
 
 returns-3 : tie.Need-returns-3
 returns-3 c =
-    let p = c .before .before .before .before .before .before .before .before .args .plan in
-    c .rename2 .ensures ∙ ap (renamed (named (p .j) (p .shape))) (c .before .node2 .ensures .is) ∙ sym (node-high (c .before .before .before .before .before .before .before .before .pre .0) (c .before .before .before .before .before .before .before .before .args .i) (c .before .before .before .if2 .left))
+    let start = c .before .before .before .before .before .before .before .before in
+    let p = start .args .plan in
+    c .rename2 .ensures ∙ ap (renamed (named (p .j) (p .shape))) (c .before .node2 .ensures .is)
+    ∙ sym (node-high (start .pre .0) (start .args .i) (c .before .before .before .if2 .left))
 
 pub new-node-spec : {M : Type 1} → statement M
 new-node-spec =

@@ -18,7 +18,8 @@ returns-2 c =
 returns-3 : tie.Need-returns-3
 returns-3 c =
     let a = c .before .before .before .args in
-    third (triple (a .shape .first)) (triple (a .shape .second)) (triple (a .shape .third)) (0, 0, 0) (a .i) (omega arith) (c .before .before .if1 .left) (c .before .if2 .left)
+    third (triple (a .shape .first)) (triple (a .shape .second)) (triple (a .shape .third)) (0, 0, 0) (a .i) (omega arith)
+    (c .before .before .if1 .left) (c .before .if2 .left)
     ∙ placed-at (a .shape) (a .i) (c .before .before .before .pre .0)
 
 pub place-spec : {M : Type 1} → statement M

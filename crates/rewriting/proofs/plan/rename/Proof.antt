@@ -1,37 +1,82 @@
--- `rewriting::plan::rename` meets its contract: by the kind: no node named, one, or two.
+-- `rewriting::plan::rename` meets its contract, by cases on the kind.
+use mathlib.Core.Path.{ap, ap₂, _∙_}
+use Prim.Native.Nat.{ℕ}
+use Rattle.flc.specs.Nodes.{Node}
+use Rattle.case_model.specs.Kinds as byTable
+use Rattle.case_model.specs.Rewriting.{firstRenamed, secondRenamed}
+use Rattle.case_reader.specs.Read.{triple}
+use Rattle.case_reader.specs.declared.parts.Triple.{Triple}
+use Rattle.case_reader.proofs.Knowing.{by-kind}
 use borrow.Author.Needs.{needs}
-use borrow.Author.Tests.{le-leb, lt-leb}
-use native.Mathlib.Omega.{arith}
+use Rattle.rewriting.specs.Shapes.{named}
+use Rattle.rewriting.specs.declared.shapes.Shape.{Shape}
 use Rattle.rewriting.proofs.plan.rename.Statement.{statement}
 use Rattle.rewriting.proofs.plan.rename.Tie as tie
 
-returns : tie.Need-returns
-returns c = rw (lt-leb 8 _ (c .if1 .taken))
+-- t, renamed as if it were this node
+abbrev renamed-as : Shape → ℕ → Triple → Node → byTable.Triple
+renamed-as s j t n = (t .0, firstRenamed n (named j s) (t .1), secondRenamed n (named j s) (t .2))
+
+kind-of-requires : tie.Need-kind-of-requires
+kind-of-requires c κs = search needs
+
+enum-told : tie.Need-enum-told
+enum-told c = search needs
+
+enum-told-2 : tie.Need-enum-told-2
+enum-told-2 c = search needs
+
+enum-told-3 : tie.Need-enum-told-3
+enum-told-3 c = search needs
 
 name-requires : tie.Need-name-requires
 name-requires c κs = search needs
 
-returns-2 : tie.Need-returns-2
-returns-2 c = rw (
-  c .name .ensures,
-  lt-leb _ 10 (c .before .if2 .taken),
-  le-leb 8 (c .before .before .before .before .before .args .t .0) (omega arith),
-)
-
 name-requires-2 : tie.Need-name-requires-2
 name-requires-2 c κs = search needs
+
+enum-told-4 : tie.Need-enum-told-4
+enum-told-4 c = search needs
 
 name-requires-3 : tie.Need-name-requires-3
 name-requires-3 c κs = search needs
 
+returns : tie.Need-returns
+returns c =
+    let a = c .before .before .before .args in
+    by-kind (triple (a .t)) (renamed-as (a .shape) (a .j) (a .t)) (c .enum-told .given .1) (c .before .before .kind-of .ensures)
+
+returns-2 : tie.Need-returns-2
+returns-2 c =
+    let a = c .before .before .before .args in
+    by-kind (triple (a .t)) (renamed-as (a .shape) (a .j) (a .t)) (c .enum-told2 .given .1) (c .before .before .kind-of .ensures)
+
 returns-3 : tie.Need-returns-3
-returns-3 c = rw (
-  c .name3 .ensures,
-  c .before .name2 .ensures,
-  le-leb _ 10 (c .before .before .if2 .left),
-  le-leb 8 _ (c .before .before .before .before .if1 .left),
-)
+returns-3 c =
+    let a = c .before .before .before .before .before .args in
+    let found = c .before .before .before .before .kind-of .ensures in
+    ap₂ (λ x y. (a .t .0, x, y)) (c .before .name .ensures) (c .name2 .ensures)
+    ∙ by-kind (triple (a .t)) (renamed-as (a .shape) (a .j) (a .t)) (c .before .before .enum-told3 .given .1) found
+
+returns-4 : tie.Need-returns-4
+returns-4 c =
+    let a = c .before .before .before .before .args in
+    ap (λ y. (a .t .0, a .t .1, y)) (c .name3 .ensures)
+    ∙ by-kind (triple (a .t)) (renamed-as (a .shape) (a .j) (a .t)) (c .before .enum-told4 .given .1) (c .before .before .before .kind-of .ensures)
 
 pub rename-spec : {M : Type 1} → statement M
 rename-spec =
-    tie.close (tie.spec returns name-requires returns-2 name-requires-2 name-requires-3 returns-3)
+    tie.close
+    (tie.spec
+    kind-of-requires
+    enum-told
+    enum-told-2
+    enum-told-3
+    name-requires
+    name-requires-2
+    enum-told-4
+    name-requires-3
+    returns
+    returns-2
+    returns-3
+    returns-4)

@@ -1,96 +1,90 @@
--- `rewriting::plan::write_new` meets its contract: after i turns the first i bytes are those of the new file.
--- The measure is how many are left.
-use borrow.Author.Needs.{needs}
-use Prim.Native.Nat.{_-_, _≤_}
-use mathlib.Core.List.{_++_}
-use mathlib.Core.Path.{_≡_, sym}
+-- `rewriting::plan::write_new` meets its contract: the head, the two sections that stay and the rule, one after the other.
 use native.Mathlib.Omega.{arith}
-use lib.ListN.{drop}
-use Rattle.case_model.specs.Bytes.{listOf, byteAt}
-use Rattle.case_model.specs.Case.{write}
-use Rattle.bisim.proofs.Filling.{put-none}
-use Rattle.rewriting.specs.Plans.{renewed}
-use Rattle.rewriting.proofs.Areas.{area-length, whole, put}
-use Rattle.rewriting.proofs.Renewed.{bytes, length-new-file}
+use borrow.Author.Needs.{needs}
+use Rattle.rewriting.proofs.NewFile.{section-length, section-within, new-length, new-short, laid-new}
 use Rattle.rewriting.proofs.plan.write_new.Statement.{statement}
 use Rattle.rewriting.proofs.plan.write_new.Tie as tie
 
-abbrev Inv-loop : tie.InvT-loop
-Inv-loop file plan out₀ size i₀ out i =
-    (out ≡ listOf i (byteAt (write (renewed file plan))) ++ drop i out₀) × (i ≤ size)
+section-size-requires : tie.Need-section-size-requires
+section-size-requires c κs = search needs
 
-abbrev μ-loop : tie.MeasureT-loop
-μ-loop file plan out₀ size i₀ out i = size - i
+section-size-requires-2 : tie.Need-section-size-requires-2
+section-size-requires-2 c κs = search needs
 
-mul-size : tie.Need-mul-size Inv-loop μ-loop
-mul-size c = search needs
+mul-t10 : tie.Need-mul-t10
+mul-t10 c = search needs
 
-add-size : tie.Need-add-size Inv-loop μ-loop
-add-size c = omega (arith, length-new-file (c .before .before .before .before .pre .0))
+add-t11 : tie.Need-add-t11
+add-t11 c = search needs
 
-add-size-2 : tie.Need-add-size-2 Inv-loop μ-loop
-add-size-2 c = omega (arith, length-new-file (c .before .before .before .before .pre .0))
+slice-aggregate-put-pairs : tie.Need-slice-aggregate-put-pairs
+slice-aggregate-put-pairs c = search needs
 
-loop-holds : tie.Need-loop-holds Inv-loop μ-loop
-loop-holds c = (put-none _ _, omega arith)
+put-pairs-requires : tie.Need-put-pairs-requires
+put-pairs-requires c κs =
+    let start = c .before .before .before .before .before .before .before in
+    let n = c .before .before .before .before .section-size .ensures .is in
+    let m = c .before .before .before .section-size2 .ensures .is in
+    (omega (arith, new-length (start .pre .0), new-short (start .pre .0)), omega (arith, new-length (start .pre .0), start .pre .1))
 
-new-byte-requires : tie.Need-new-byte-requires Inv-loop μ-loop
-new-byte-requires c κs =
-    let h = c .before .before .before .before .before .before in
-    (h .pre .0, omega (arith, length-new-file (h .pre .0)))
+put-section-requires : tie.Need-put-section-requires
+put-section-requires c κs =
+    let start = c .before .before .before .before .before .before .before .before .before .before .before in
+    let head = c .before .before .before .put-pairs .ensures in
+    (omega arith, section-within (start .pre .0) 0 (omega arith), omega (arith, new-length (start .pre .0), start .pre .1, head .ends, head .long))
 
-cast-out : tie.Need-cast-out Inv-loop μ-loop
-cast-out c =
-    let h = c .before .before .before .before .before .before .before in
-    omega (arith, c .new-byte .ensures, bytes (h .pre .0) (c .before .before .loop .i))
+put-section-requires-2 : tie.Need-put-section-requires-2
+put-section-requires-2 c κs =
+    let labels = c .before .before .before in
+    let pairs = labels .before .before .before .before in
+    let start = pairs .before .before .before .before .before .before .before .before in
+    let f = start .args .file .now in
+    let head = pairs .put-pairs .ensures in
+    let l = labels .put-section .ensures in
+    let n = section-length f 0 in
+    let long = new-length (start .pre .0) in
+    (omega arith, section-within (start .pre .0) 1 (omega arith), omega (arith, long, start .pre .1, head .ends, head .long, l .ends, l .long))
 
-slice-write-out : tie.Need-slice-write-out Inv-loop μ-loop
-slice-write-out c =
-    let h = c .before .before .before .before .before .before .before in
-    let l = c .before .before .loop in
-    omega (arith, length-new-file (h .pre .0), area-length _ _ _ (omega (arith, length-new-file (h .pre .0))) (l .inv .0))
+put-rule-requires : tie.Need-put-rule-requires
+put-rule-requires c κs =
+    let steps = c .before .before .before in
+    let labels = steps .before .before .before .before in
+    let pairs = labels .before .before .before .before in
+    let start = pairs .before .before .before .before .before .before .before .before in
+    let f = start .args .file .now in
+    let head = pairs .put-pairs .ensures in
+    let l = labels .put-section .ensures in
+    let s = steps .put-section2 .ensures in
+    let n = section-length f 0 in
+    let m = section-length f 1 in
+    (start .pre .0, omega (arith, new-length (start .pre .0), start .pre .1, head .ends, head .long, l .ends, l .long, s .ends, s .long))
 
-add-i : tie.Need-add-i Inv-loop μ-loop
-add-i c =
-    let h = c .before .before .before .before .before .before .before in
-    omega (arith, length-new-file (h .pre .0))
+same-length : tie.Need-same-length
+same-length c = search needs
 
-loop-less : tie.Need-loop-less Inv-loop μ-loop
-loop-less c = omega arith
-
-loop-again : tie.Need-loop-again Inv-loop μ-loop
-loop-again c =
-    let h = c .before .before .before .before .before .before .before in
-    let l = c .before .before .loop in
-    (put _ (l .i) _ _ (omega (arith, length-new-file (h .pre .0))) (l .inv .0) (c .new-byte .ensures), omega arith)
-
-same-length : tie.Need-same-length Inv-loop μ-loop
-same-length c =
-    let h = c .before .before .before .before .before .before in
-    let l = c .before .loop in
-    area-length _ (l .i) _ (omega (arith, length-new-file (h .pre .0))) (l .inv .0)
-
-returns : tie.Need-returns Inv-loop μ-loop
+returns : tie.Need-returns
 returns c =
-    let h = c .before .before .before .before .before .before in
-    let l = c .before .loop in
-    (sym (length-new-file (h .pre .0)), whole (write (renewed (h .args .file .now) (h .args .plan))) (l .i) _ (omega (arith, length-new-file (h .pre .0))) (l .inv .0))
+    let rule = c .before .before in
+    let steps = rule .before .before .before .before in
+    let labels = steps .before .before .before .before in
+    let pairs = labels .before .before .before .before in
+    let start = pairs .before .before .before .before .before .before .before .before in
+    let sizes = pairs .before .before .before .before in
+    laid-new (start .pre .0) (sizes .before .section-size .ensures .is) (sizes .section-size2 .ensures .is)
+    (pairs .put-pairs .ensures) (labels .put-section .ensures) (steps .put-section2 .ensures) (rule .put-rule .ensures)
 
 pub write-new-spec : {M : Type 1} → statement M
 write-new-spec =
     tie.close
     (tie.spec
-    Inv-loop
-    μ-loop
-    mul-size
-    add-size
-    add-size-2
-    loop-holds
-    new-byte-requires
-    cast-out
-    slice-write-out
-    add-i
-    loop-less
-    loop-again
+    section-size-requires
+    section-size-requires-2
+    mul-t10
+    add-t11
+    slice-aggregate-put-pairs
+    put-pairs-requires
+    put-section-requires
+    put-section-requires-2
+    put-rule-requires
     same-length
     returns)

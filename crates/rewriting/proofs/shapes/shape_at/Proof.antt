@@ -27,7 +27,8 @@ returns c =
     let x = c .before .before .node2 in
     let y = c .before .node3 in
     subst (Does (a .j) (c .shape-of .result))
-    (at-node (read (a .file .now) .nodes) (a .law) (a .j) (triple (n .result)) (triple (x .result)) (triple (y .result)) (n .ensures .is) (x .ensures .is) (y .ensures .is))
+    (at-node (read (a .file .now) .nodes) (a .law) (a .j) (triple (n .result)) (triple (x .result)) (triple (y .result))
+    (n .ensures .is) (x .ensures .is) (y .ensures .is))
     (c .shape-of .ensures)
 
 pub shape-at-spec : {M : Type 1} → statement M

@@ -7,6 +7,12 @@ use Rattle.rewriting.proofs.Laws.{no-law}
 use Rattle.rewriting.proofs.shapes.shape_of.Statement.{statement}
 use Rattle.rewriting.proofs.shapes.shape_of.Tie as tie
 
+add-t14 : tie.Need-add-t14
+add-t14 c = search needs
+
+add-t14-2 : tie.Need-add-t14-2
+add-t14-2 c = search needs
+
 redirect-requires : tie.Need-redirect-requires
 redirect-requires c κs = search needs
 
@@ -22,14 +28,8 @@ insert-requires c κs = search needs
 insert-requires-2 : tie.Need-insert-requires-2
 insert-requires-2 c κs = search needs
 
-add-t28 : tie.Need-add-t28
-add-t28 c = search needs
-
 insert-requires-3 : tie.Need-insert-requires-3
 insert-requires-3 c κs = search needs
-
-add-t32 : tie.Need-add-t32
-add-t32 c = search needs
 
 insert-requires-4 : tie.Need-insert-requires-4
 insert-requires-4 c κs = search needs
@@ -76,7 +76,9 @@ returns-10 c =
     let a = c .before .before .before .before .before .args in
     record {
       is = rw (c .insert6 .ensures)
-          (no-law (a .j) (triple (a .n)) (triple (a .x)) (triple (a .y)) (a .law) (r .0 .0 .0 .0 .0 .0 .0 .0 .1) (r .0 .0 .0 .0 .0 .0 .0 .1) (r .0 .0 .0 .0 .0 .0 .1) (r .0 .0 .0 .0 .0 .1) (r .0 .0 .0 .0 .1) (r .0 .0 .0 .1) (r .0 .0 .1) (r .0 .1) (r .1));
+          (no-law (a .j) (triple (a .n)) (triple (a .x)) (triple (a .y)) (a .law)
+          (r .0 .0 .0 .0 .0 .0 .0 .0 .1) (r .0 .0 .0 .0 .0 .0 .0 .1) (r .0 .0 .0 .0 .0 .0 .1) (r .0 .0 .0 .0 .0 .1)
+          (r .0 .0 .0 .0 .1) (r .0 .0 .0 .1) (r .0 .0 .1) (r .0 .1) (r .1));
       few = rw (c .insert6 .ensures) (omega arith);
     }
 
@@ -84,14 +86,14 @@ pub shape-of-spec : {M : Type 1} → statement M
 shape-of-spec =
     tie.close
     (tie.spec
+    add-t14
+    add-t14-2
     redirect-requires
     redirect-requires-2
     redirect-requires-3
     insert-requires
     insert-requires-2
-    add-t28
     insert-requires-3
-    add-t32
     insert-requires-4
     redirect-requires-4
     insert-requires-5

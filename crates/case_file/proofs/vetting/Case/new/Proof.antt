@@ -1,10 +1,15 @@
 -- `case_file::vetting::Case::new` meets its contract: rows 1 to 7, then the reply.
 use borrow.Author.Needs.{needs}
-use mathlib.Core.Path.{_∙_}
+use mathlib.Core.Path.{subst, _∙_}
+use Rattle.case_model.specs.Rows.{refusals}
 use Rattle.case_model.specs.Replies.{accepting}
+use Rattle.case_file.specs.VettingStages.{Stage}
 use Rattle.case_file.proofs.Stages.{answered}
 use Rattle.case_file.proofs.vetting.Case.new.Statement.{statement}
 use Rattle.case_file.proofs.vetting.Case.new.Tie as tie
+
+limits-requires : tie.Need-limits-requires
+limits-requires c κs = search needs
 
 rows-requires : tie.Need-rows-requires
 rows-requires c κs = search needs
@@ -14,7 +19,9 @@ reply-requires c κs = search needs
 
 returns : tie.Need-returns
 unfolding accepting
-returns c = c .reply .ensures ∙ answered (c .before .rows .ensures)
+returns c =
+    let f = c .before .before .before .before .args .file .now in
+    c .reply .ensures ∙ answered (subst (λ most. Stage f (c .before .rows .result) (refusals most f)) (c .before .before .limits .ensures) (c .before .rows .ensures))
 
 pub new-spec : {M : Type 1} → statement M
-new-spec = tie.close (tie.spec rows-requires reply-requires returns)
+new-spec = tie.close (tie.spec limits-requires rows-requires reply-requires returns)

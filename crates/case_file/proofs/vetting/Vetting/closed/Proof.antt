@@ -1,7 +1,7 @@
 -- `case_file::vetting::Vetting::closed` meets its contract: its test is the row's, and is made only where the root is a node.
 use borrow.Author.Needs.{needs}
 use mathlib.Core.Path.{ap}
-use Rattle.case_file.specs.Told.{found}
+use Rattle.case_file.specs.EnumNumbers.{found}
 use Rattle.case_file.proofs.vetting.Vetting.closed.Statement.{statement}
 use Rattle.case_file.proofs.vetting.Vetting.closed.Tie as tie
 

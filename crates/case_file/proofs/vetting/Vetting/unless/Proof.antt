@@ -2,7 +2,7 @@
 use borrow.Author.Needs.{needs}
 use mathlib.Core.Path.{refl, ap, _∙_}
 use Rattle.case_model.specs.Rows.{_orElse_}
-use Rattle.case_file.specs.Told.{found}
+use Rattle.case_file.specs.EnumNumbers.{found}
 use Rattle.case_file.proofs.vetting.Vetting.unless.Statement.{statement}
 use Rattle.case_file.proofs.vetting.Vetting.unless.Tie as tie
 

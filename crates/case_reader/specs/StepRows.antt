@@ -1,0 +1,31 @@
+-- A step relation as 128 rows of masks: bit t of row 8s + a is the step (s, a, t).
+use Prim.Native.Nat.{ℕ, _+_, _*_, _%_, _^_, _<_}
+use mathlib.Core.Bool.{Bool, _&&_, cond}
+use mathlib.Core.List.{List}
+use mathlib.Core.Path.{_≡_}
+use lib.Bits.{bitOr}
+use lib.Dec.{ltb}
+use lib.ListN.{length, getD, set}
+use Rattle.flc.specs.Sets.{has}
+use Rattle.case_model.specs.Kinds.{Triple}
+use Rattle.case_model.specs.Case.{listed}
+
+unfoldable pub relation : List ℕ → ℕ → ℕ → ℕ → Bool
+relation rows s a t = has (getD rows (8 * s + a) 0) t
+
+-- the row of a step, and its bit, if it has a place
+abbrev pub rowOf : Triple → ℕ
+rowOf x = 8 * (x .0 % 16) + x .1 % 8
+
+abbrev pub bitOf : Triple → ℕ
+bitOf x = cond (ltb (x .0) 16 && ltb (x .1) 8 && ltb (x .2) 16) (2 ^ (x .2 % 16)) 0
+
+-- the rows with one step more
+unfoldable pub marked : List ℕ → Triple → List ℕ
+marked rows x = set rows (rowOf x) (bitOr (getD rows (rowOf x) 0) (bitOf x))
+
+-- the rows hold just the steps listed, of those that have a place
+pub record StepRows (l : List Triple) (rows : List ℕ) : Type 0 where
+  pub long : length rows ≡ 128
+  pub small : (i : ℕ) → getD rows i 0 < 65536
+  pub is : (s a t : ℕ) → s < 16 → a < 8 → t < 16 → relation rows s a t ≡ listed l s a t

@@ -1,0 +1,80 @@
+// What a triple is as a node: the one place of the code that knows the numbers of the kinds.
+ghost use mathlib.Core.Path.{_≡_};
+ghost use Rattle.case_model.specs.Kinds.{kindAt, nodeOf, isBinder};
+ghost use Rattle.case_reader.specs.Read.{triple};
+ghost use Rattle.case_reader.specs.NodeKinds.{lineOf};
+use crate::parts::Triple;
+
+pub enum Atom {
+    Top,
+    Bottom,
+    Proposition,
+    Complement,
+    Tau,
+    Diamond,
+    Boxed,
+}
+
+pub enum Operator {
+    Or,
+    And,
+    Chop,
+}
+
+// A leaf, which names no node: an atom or a variable; a node that names two; or a binder, of the least fixed point if true, else of the greatest.
+pub enum Kind {
+    Atom(Atom),
+    Variable,
+    Two(Operator),
+    Binder(bool),
+}
+
+impl Kind {
+    // The numbers that the laws name, and how many kinds there are.
+    pub const LAST_CONSTANT: usize = 3;
+
+    pub const TAU: usize = 5;
+
+    pub const OR: usize = 8;
+
+    pub const AND: usize = 9;
+
+    pub const CHOP: usize = 10;
+
+    pub const COUNT: usize = 13;
+}
+
+// The line of the table that a triple has; past the table's end, a constant.
+pub fn kind_of(t: Triple) -> Kind
+    ensures { λ r. ⌜ lineOf r ≡ kindAt (t .0) ⌝ }
+{
+    let number = t.0;
+    match number {
+        0 => Kind::Atom(Atom::Top),
+        1 => Kind::Atom(Atom::Bottom),
+        2 => Kind::Atom(Atom::Proposition),
+        3 => Kind::Atom(Atom::Complement),
+        4 => Kind::Variable,
+        5 => Kind::Atom(Atom::Tau),
+        6 => Kind::Atom(Atom::Diamond),
+        7 => Kind::Atom(Atom::Boxed),
+        8 => Kind::Two(Operator::Or),
+        9 => Kind::Two(Operator::And),
+        10 => Kind::Two(Operator::Chop),
+        11 => Kind::Binder(true),
+        12 => Kind::Binder(false),
+        _ => Kind::Atom(Atom::Bottom),
+    }
+}
+
+pub fn is_binder(t: Triple) -> bool
+    ensures { λ r. ⌜ r ≡ isBinder (nodeOf (triple t)) ⌝ }
+{
+    let kind = kind_of(t);
+    match kind {
+        Kind::Atom(_) => false,
+        Kind::Variable => false,
+        Kind::Two(_) => false,
+        Kind::Binder(_) => true,
+    }
+}

@@ -1,0 +1,3 @@
+pub mod Parts
+pub mod Pairs
+pub mod Packing
