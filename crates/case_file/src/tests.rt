@@ -1,26 +1,21 @@
 // The tests of rows 1 to 6, each over any bytes.
 ghost use mathlib.Core.Path.{_≡_};
-ghost use mathlib.Core.Bool.{_&&_};
-ghost use Prim.Native.Nat.{ℕ, _*_, _-_};
+ghost use Prim.Native.Nat.{_*_, _-_};
 ghost use Rattle.flc.specs.Sets.{forSome, first};
 ghost use Rattle.case_model.specs.Bytes.{chained, pairsHold};
 ghost use Rattle.case_model.specs.Limits.{sections};
 ghost use Rattle.case_model.specs.Case.{read, at};
 ghost use Rattle.case_model.specs.Rows.{rises, stepWrong, nodeWrong, binds, binderWrong, labelsHold, ruleHolds};
-ghost use Rattle.case_model.specs.Kinds.{fits, nodeHolds};
 ghost use Rattle.case_reader.specs.Read.{triple};
-ghost use Rattle.case_reader.specs.NodeKinds.{operandOf, lineOf};
 ghost use Rattle.case_file.specs.EnumNumbers.{limitsOf};
 ghost use Rattle.case_file.specs.VettingStages.{wrong};
 use crate::vetting::Case;
 use crate::vetting::Limits;
-use case_reader::Atom;
-use case_reader::Kind;
 use case_reader::Triple;
 use case_reader::is_binder;
-use case_reader::kind_of;
 use case_reader::node;
 use case_reader::node_count;
+use case_reader::node_holds;
 use case_reader::root;
 use case_reader::section_offset;
 use case_reader::section_size;
@@ -85,41 +80,6 @@ pub(crate) fn rule_holds(file: &[u8]) -> bool
 {
     let m = node_count(file);
     (section_size(file, 2) % 3 == 1) & (1 <= m) & (m <= Case::NODES) & (root(file) < m)
-}
-
-// Can a be the operand of such an atom?
-fn atom_fits(atom: Atom, a: usize) -> bool
-    ensures { λ r. ⌜ ((j : ℕ) → r ≡ fits (operandOf atom) j a) ⌝ }
-{
-    match atom {
-        Atom::Top => a == 0,
-        Atom::Bottom => a == 0,
-        Atom::Proposition => a < Case::PROPOSITIONS,
-        Atom::Complement => a < Case::PROPOSITIONS,
-        Atom::Tau => a == 0,
-        Atom::Diamond => a < Case::ACTIONS,
-        Atom::Boxed => a < Case::ACTIONS,
-    }
-}
-
-// Can a and b be the operands of node j, which is of this kind?
-fn operands_fit(kind: Kind, j: usize, a: usize, b: usize) -> bool
-    ensures { λ r. ⌜ r ≡ fits (lineOf kind .first) j a && fits (lineOf kind .second) j b ⌝ }
-{
-    match kind {
-        Kind::Atom(atom) => atom_fits(atom, a) & (b == 0),
-        Kind::Variable => (a < Case::VARIABLES) & (b == 0),
-        Kind::Two(_) => (a < j) & (b < j),
-        Kind::Binder(_) => (a < Case::VARIABLES) & (b < j),
-    }
-}
-
-// The table of kinds, for node j.
-fn node_holds(j: usize, t: Triple) -> bool
-    ensures { λ r. ⌜ r ≡ nodeHolds j (triple t) ⌝ }
-{
-    let fits = operands_fit(kind_of(t), j, t.1, t.2);
-    (t.0 < Kind::COUNT) & fits
 }
 
 fn node_wrong(file: &[u8], j: usize) -> bool

@@ -15,6 +15,7 @@ use crate::tests::first_wrong;
 use crate::tests::labels_hold;
 use crate::tests::pairs_hold;
 use crate::tests::rule_holds;
+use case_reader::Kind;
 use case_reader::masks;
 use case_reader::node_count;
 use case_reader::root;
@@ -38,17 +39,17 @@ impl Case {
     // In bytes.
     pub const LONGEST: usize = 6365;
 
-    pub const SECTIONS: usize = 3;
+    pub const SECTIONS: usize = case_reader::SECTIONS;
 
     pub const STATES: usize = 16;
 
     pub const NODES: usize = 64;
 
-    pub const ACTIONS: usize = 8;
+    pub const ACTIONS: usize = Kind::ACTIONS;
 
-    pub const PROPOSITIONS: usize = 8;
+    pub const PROPOSITIONS: usize = Kind::PROPOSITIONS;
 
-    pub const VARIABLES: usize = 16;
+    pub const VARIABLES: usize = Kind::VARIABLES;
 
     // The checked constructor: a case only of a file that none of refusals 1 to 7 meets.
     pub fn new(file: &[u8]) -> Vetted

@@ -17,12 +17,15 @@ use Rattle.flc.proofs.Tests.{either-left, either-right, either-use}
 use Rattle.flc.proofs.Masks.{has-or, has-empty, has-single}
 use Rattle.flc.proofs.Unfolding.{Lower}
 use Rattle.case_model.specs.Limits.{mostNodes}
-use Rattle.case_model.specs.Kinds.{kinds, kindAt}
+use Rattle.case_model.specs.Kinds.{Triple, kinds, kindAt, nodeOf}
 use Rattle.case_model.specs.Case.{Case, nodeAt}
 use Rattle.case_model.specs.Valid.{ValidRule}
 use Rattle.case_model.specs.Reach.{Reached, the-root, named, ReachSet}
 use Rattle.case_model.proofs.Nodes.{node-lower}
+use Rattle.case_reader.specs.NodeKinds.{lineOf}
 use Rattle.case_reader.specs.NodeSets.{withNode, withAll, withNamed, spread}
+use Rattle.case_reader.specs.declared.kinds.Kind.{Kind}
+use Rattle.case_reader.proofs.Knowing.{by-kind}
 
 -- ---- a bit that was looked at
 pub absent : (x j : ℕ) → x / 2 ^ j % 2 ≡ 0 → has x j ≡ false
@@ -32,6 +35,11 @@ absent x j e = rw e
 pub present : (x j : ℕ) → (x / 2 ^ j % 2 ≡ 0 → ⊥) → has x j ≡ true
 unfolding has
 present x j n = eq-eqb (x / 2 ^ j % 2) 1 (elim (ℕ-discrete (x / 2 ^ j % 2) 0) [ yes e ↦ absurd (n e) | no q ↦ omega arith ])
+
+-- the node j that was looked at is in the set, and its kind was found
+pub named-by : (x : ℕ) (t : Triple) (j : ℕ) {k k′ : Kind} → (x / 2 ^ j % 2 ≡ 0 → ⊥) → k ≡ k′ → lineOf k ≡ kindAt (t .0)
+    → withAll x (lineOf k′ .node (t .1) (t .2)) ≡ withNamed x (nodeOf t) j
+named-by x t j n q e = rw (present x j n) (by-kind t (withAll x) q e)
 
 -- ---- one node more
 module _ (x i : ℕ) where

@@ -1,8 +1,10 @@
-// What a triple is as a node: the one place of the code that knows the numbers of the kinds.
+// What a triple is as a node, and what its operands can be: the one place of the code that knows the numbers of the kinds.
+ghost use mathlib.Core.Bool.{_&&_};
 ghost use mathlib.Core.Path.{_≡_};
-ghost use Rattle.case_model.specs.Kinds.{kindAt, nodeOf, isBinder};
+ghost use Prim.Native.Nat.{ℕ};
+ghost use Rattle.case_model.specs.Kinds.{fits, kindAt, nodeOf, nodeHolds, isBinder};
 ghost use Rattle.case_reader.specs.Read.{triple};
-ghost use Rattle.case_reader.specs.NodeKinds.{lineOf};
+ghost use Rattle.case_reader.specs.NodeKinds.{operandOf, lineOf};
 use crate::parts::Triple;
 
 pub enum Atom {
@@ -42,6 +44,13 @@ impl Kind {
     pub const CHOP: usize = 10;
 
     pub const COUNT: usize = 13;
+
+    // How many propositions, variables and actions an operand can name.
+    pub const PROPOSITIONS: usize = 8;
+
+    pub const VARIABLES: usize = 16;
+
+    pub const ACTIONS: usize = 8;
 }
 
 // The line of the table that a triple has; past the table's end, a constant.
@@ -77,4 +86,39 @@ pub fn is_binder(t: Triple) -> bool
         Kind::Two(_) => false,
         Kind::Binder(_) => true,
     }
+}
+
+// Can a be the operand of such an atom?
+fn atom_fits(atom: Atom, a: usize) -> bool
+    ensures { λ r. ⌜ ((j : ℕ) → r ≡ fits (operandOf atom) j a) ⌝ }
+{
+    match atom {
+        Atom::Top => a == 0,
+        Atom::Bottom => a == 0,
+        Atom::Proposition => a < Kind::PROPOSITIONS,
+        Atom::Complement => a < Kind::PROPOSITIONS,
+        Atom::Tau => a == 0,
+        Atom::Diamond => a < Kind::ACTIONS,
+        Atom::Boxed => a < Kind::ACTIONS,
+    }
+}
+
+// Can a and b be the operands of node j, which is of this kind?
+fn operands_fit(kind: Kind, j: usize, a: usize, b: usize) -> bool
+    ensures { λ r. ⌜ r ≡ fits (lineOf kind .first) j a && fits (lineOf kind .second) j b ⌝ }
+{
+    match kind {
+        Kind::Atom(atom) => atom_fits(atom, a) & (b == 0),
+        Kind::Variable => (a < Kind::VARIABLES) & (b == 0),
+        Kind::Two(_) => (a < j) & (b < j),
+        Kind::Binder(_) => (a < Kind::VARIABLES) & (b < j),
+    }
+}
+
+// The table of kinds, for node j.
+pub fn node_holds(j: usize, t: Triple) -> bool
+    ensures { λ r. ⌜ r ≡ nodeHolds j (triple t) ⌝ }
+{
+    let fits = operands_fit(kind_of(t), j, t.1, t.2);
+    (t.0 < Kind::COUNT) & fits
 }

@@ -13,6 +13,8 @@ pub use kinds::Kind;
 pub use kinds::Operator;
 pub use kinds::is_binder;
 pub use kinds::kind_of;
+pub use kinds::node_holds;
+pub use parts::SECTIONS;
 pub use parts::Triple;
 pub use parts::label;
 pub use parts::node;

@@ -10,6 +10,9 @@ ghost use Rattle.case_reader.specs.Read.{Is, IsTriple};
 use crate::bytes::byte;
 use crate::bytes::word;
 
+// How many sections a file has.
+pub const SECTIONS: usize = 3;
+
 // A step (from, action, to), or a node (kind, A, B).
 pub struct Triple(pub usize, pub usize, pub usize);
 
@@ -17,7 +20,7 @@ pub struct Triple(pub usize, pub usize, pub usize);
 pub fn section_offset(file: &[u8], section: usize) -> usize
     ensures { λ r. ⌜ Is (cond (ltb section sections) (offset (now (file .entry)) section) 0) 65536 r ⌝ }
 {
-    if section < 3 {
+    if section < SECTIONS {
         word(file, 4 * section)
     } else {
         0
@@ -27,7 +30,7 @@ pub fn section_offset(file: &[u8], section: usize) -> usize
 pub fn section_size(file: &[u8], section: usize) -> usize
     ensures { λ r. ⌜ Is (cond (ltb section sections) (size (now (file .entry)) section) 0) 65536 r ⌝ }
 {
-    if section < 3 {
+    if section < SECTIONS {
         word(file, 4 * section + 2)
     } else {
         0

@@ -39,16 +39,27 @@ without-requires : tie.Need-without-requires
 without-requires c κs = search needs
 
 returns : tie.Need-returns
-returns c = by-kind (triple (c .before .before .before .args .x)) (maskOf (c .before .before .before .args .t)) (c .enum-told .given .1) (c .before .before .kind-of .ensures)
+returns c =
+    let a = c .before .before .before .args in
+    by-kind (triple (a .x)) (maskOf (a .t)) (c .enum-told .given .1) (c .before .before .kind-of .ensures)
 
 returns-2 : tie.Need-returns-2
-returns-2 c = c .single .ensures ∙ by-kind (triple (c .before .before .before .before .args .x)) (maskOf (c .before .before .before .before .args .t)) (c .before .enum-told2 .given .1) (c .before .before .before .kind-of .ensures)
+returns-2 c =
+    let a = c .before .before .before .before .args in
+    c .single .ensures
+    ∙ by-kind (triple (a .x)) (maskOf (a .t)) (c .before .enum-told2 .given .1) (c .before .before .before .kind-of .ensures)
 
 returns-3 : tie.Need-returns-3
-returns-3 c = ap₂ bitOr (c .before .entry .ensures) (c .entry2 .ensures) ∙ by-kind (triple (c .before .before .before .before .before .args .x)) (maskOf (c .before .before .before .before .before .args .t)) (c .before .before .enum-told3 .given .1) (c .before .before .before .before .kind-of .ensures)
+returns-3 c =
+    let a = c .before .before .before .before .before .args in
+    ap₂ bitOr (c .before .entry .ensures) (c .entry2 .ensures)
+    ∙ by-kind (triple (a .x)) (maskOf (a .t)) (c .before .before .enum-told3 .given .1) (c .before .before .before .before .kind-of .ensures)
 
 returns-4 : tie.Need-returns-4
-returns-4 c = c .without .ensures ∙ ap (λ y. without y (c .before .before .before .before .before .args .x .1)) (c .before .entry3 .ensures) ∙ by-kind (triple (c .before .before .before .before .before .args .x)) (maskOf (c .before .before .before .before .before .args .t)) (c .before .before .enum-told4 .given .1) (c .before .before .before .before .kind-of .ensures)
+returns-4 c =
+    let a = c .before .before .before .before .before .args in
+    c .without .ensures ∙ ap (λ y. without y (a .x .1)) (c .before .entry3 .ensures)
+    ∙ by-kind (triple (a .x)) (maskOf (a .t)) (c .before .before .enum-told4 .given .1) (c .before .before .before .before .kind-of .ensures)
 
 pub mask-of-spec : {M : Type 1} → statement M
 mask-of-spec =

@@ -1,9 +1,8 @@
 -- `case_reader::reach::with_named` meets its contract, by cases on the kind.
 use mathlib.Core.Path.{ap, _∙_}
 use Rattle.case_reader.specs.Read.{triple}
-use Rattle.case_reader.specs.NodeSets.{withNode, withAll}
-use Rattle.case_reader.proofs.Knowing.{by-kind}
-use Rattle.case_reader.proofs.Reaching.{absent, present}
+use Rattle.case_reader.specs.NodeSets.{withNode}
+use Rattle.case_reader.proofs.Reaching.{absent, named-by}
 use borrow.Author.Needs.{needs}
 use Rattle.case_reader.proofs.reach.with_named.Statement.{statement}
 use Rattle.case_reader.proofs.reach.with_named.Tie as tie
@@ -39,16 +38,26 @@ with-requires-3 : tie.Need-with-requires-3
 with-requires-3 c κs = search needs
 
 returns-2 : tie.Need-returns-2
-returns-2 c = rw (present (c .before .before .before .before .args .set) (c .before .before .before .before .args .j) (c .before .before .before .if1 .left)) (by-kind (triple (c .before .before .before .before .args .x)) (withAll (c .before .before .before .before .args .set)) (c .enum-told .given .1) (c .before .before .kind-of .ensures))
+returns-2 c =
+    let a = c .before .before .before .before .args in
+    named-by (a .set) (triple (a .x)) (a .j) (c .before .before .before .if1 .left) (c .enum-told .given .1) (c .before .before .kind-of .ensures)
 
 returns-3 : tie.Need-returns-3
-returns-3 c = rw (present (c .before .before .before .before .args .set) (c .before .before .before .before .args .j) (c .before .before .before .if1 .left)) (by-kind (triple (c .before .before .before .before .args .x)) (withAll (c .before .before .before .before .args .set)) (c .enum-told2 .given .1) (c .before .before .kind-of .ensures))
+returns-3 c =
+    let a = c .before .before .before .before .args in
+    named-by (a .set) (triple (a .x)) (a .j) (c .before .before .before .if1 .left) (c .enum-told2 .given .1) (c .before .before .kind-of .ensures)
 
 returns-4 : tie.Need-returns-4
-returns-4 c = rw (present (c .before .before .before .before .before .before .args .set) (c .before .before .before .before .before .before .args .j) (c .before .before .before .before .before .if1 .left)) (c .with2 .ensures ∙ ap (λ y. withNode y (c .before .before .before .before .before .before .args .x .2)) (c .before .with .ensures) ∙ by-kind (triple (c .before .before .before .before .before .before .args .x)) (withAll (c .before .before .before .before .before .before .args .set)) (c .before .before .enum-told3 .given .1) (c .before .before .before .before .kind-of .ensures))
+returns-4 c =
+    let a = c .before .before .before .before .before .before .args in
+    c .with2 .ensures ∙ ap (λ y. withNode y (a .x .2)) (c .before .with .ensures)
+    ∙ named-by (a .set) (triple (a .x)) (a .j) (c .before .before .before .before .before .if1 .left) (c .before .before .enum-told3 .given .1) (c .before .before .before .before .kind-of .ensures)
 
 returns-5 : tie.Need-returns-5
-returns-5 c = rw (present (c .before .before .before .before .before .args .set) (c .before .before .before .before .before .args .j) (c .before .before .before .before .if1 .left)) (c .with3 .ensures ∙ by-kind (triple (c .before .before .before .before .before .args .x)) (withAll (c .before .before .before .before .before .args .set)) (c .before .enum-told4 .given .1) (c .before .before .before .kind-of .ensures))
+returns-5 c =
+    let a = c .before .before .before .before .before .args in
+    c .with3 .ensures
+    ∙ named-by (a .set) (triple (a .x)) (a .j) (c .before .before .before .before .if1 .left) (c .before .enum-told4 .given .1) (c .before .before .before .kind-of .ensures)
 
 pub with-named-spec : {M : Type 1} → statement M
 with-named-spec =

@@ -1,10 +1,10 @@
--- `case_file::tests::atom_fits` meets its contract, atom by atom.
+-- `case_reader::kinds::atom_fits` meets its contract, atom by atom.
 use mathlib.Core.Path.{ap, sym}
 use Rattle.case_model.specs.Kinds.{fits}
 use Rattle.case_reader.specs.NodeKinds.{operandOf}
 use borrow.Author.Needs.{needs}
-use Rattle.case_file.proofs.tests.atom_fits.Statement.{statement}
-use Rattle.case_file.proofs.tests.atom_fits.Tie as tie
+use Rattle.case_reader.proofs.kinds.atom_fits.Statement.{statement}
+use Rattle.case_reader.proofs.kinds.atom_fits.Tie as tie
 
 enum-told : tie.Need-enum-told
 enum-told c = search needs

@@ -1,12 +1,12 @@
--- `case_file::tests::node_holds` meets its contract: the kind is the table's line.
+-- `case_reader::kinds::node_holds` meets its contract: the kind is the table's line.
 use mathlib.Core.Bool.{_&&_}
 use mathlib.Core.Path.{ap, _∙_}
 use borrow.Author.Needs.{needs}
 use lib.Dec.{ltb}
 use Rattle.case_model.specs.Kinds.{Kind, fits, kinds}
 use Rattle.case_reader.specs.Read.{triple}
-use Rattle.case_file.proofs.tests.node_holds.Statement.{statement}
-use Rattle.case_file.proofs.tests.node_holds.Tie as tie
+use Rattle.case_reader.proofs.kinds.node_holds.Statement.{statement}
+use Rattle.case_reader.proofs.kinds.node_holds.Tie as tie
 
 kind-of-requires : tie.Need-kind-of-requires
 kind-of-requires c κs = search needs
