@@ -84,6 +84,11 @@ module _ (x : Triple) where
     other-row n = is-false _ (λ u. let e = same x s a t u in n (omega (arith, e .from, e .action)))
 
 -- ---- one step more
+-- a store is a mark
+pub marked-by : (rows : List ℕ) (x : Triple) {at bit : ℕ} → at ≡ rowOf x → bit ≡ bitOf x → set rows at (bitOr (getD rows at 0) bit) ≡ marked rows x
+unfolding marked
+marked-by rows x p q = ap₂ (λ p b. set rows p (bitOr (getD rows p 0) b)) p q
+
 module _ {l : List Triple} {rows : List ℕ} (R : StepRows l rows) (x : Triple) where
   abbrev entry : ℕ
   entry = bitOr (getD rows (rowOf x) 0) (bitOf x)

@@ -43,8 +43,9 @@ pub fn step_rows(file: &[u8]) -> [u16; 128]
     let mut i = step_count(file);
     while 0 < i {
         i -= 1;
-        let next = mark(rows, step(file, i));
-        rows = next;
+        let x = step(file, i);
+        let at = row_of(x);
+        rows[at] = rows[at] | bit_of(x);
     }
     rows
 }

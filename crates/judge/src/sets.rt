@@ -16,12 +16,12 @@ use case_reader::is_binder;
 use case_reader::label;
 use case_reader::node;
 
-// Bit i of a mask.
-fn bit(mask: usize, i: usize) -> u16
-    requires { ⌜ i < 16 ⌝ }
-    ensures { λ r. ⌜ r ≡ mask / 2 ^ i % 2 ⌝ }
+// Bit i of a label.
+fn bit(label: usize, i: usize) -> u16
+    requires { ⌜ i < 8 ⌝ }
+    ensures { λ r. ⌜ r ≡ label / 2 ^ i % 2 ⌝ }
 {
-    ((mask >> i) % 2) as u16
+    ((label >> i) % 2) as u16
 }
 
 // The states whose labels have bit i, from the highest state down.
@@ -51,15 +51,15 @@ pub(crate) fn props(file: &[u8], states: usize) -> [usize; 8]
 }
 
 // The states with an a-step to t, from the highest state down.
-fn column(rows: [u16; 128], states: usize, a: usize, t: usize) -> u16
-    requires { ⌜ (states ≤ 16) × (a < 8) × (t < 16) ⌝ }
-    ensures { λ r. ⌜ r ≡ setOf states (λ s. relation rows s a t) ⌝ }
+fn column(rows: &[u16], states: usize, a: usize, t: usize) -> u16
+    requires { ⌜ (length (now rows) ≡ 128) × (states ≤ 16) × (a < 8) × (t < 16) ⌝ }
+    ensures { λ r. ⌜ r ≡ setOf states (λ s. relation (now (rows .entry)) s a t) ⌝ }
 {
     let mut x: u16 = 0;
     let mut s = states;
     while 0 < s {
         s -= 1;
-        x = 2 * x + bit(rows[8 * s + a] as usize, t);
+        x = 2 * x + (rows[8 * s + a] >> t) % 2;
     }
     x
 }
@@ -71,7 +71,7 @@ pub(crate) fn sources(rows: [u16; 128], states: usize) -> [usize; 128]
 {
     let mut r = [0usize; 128];
     for k in 0..128 {
-        r[k] = column(rows, states, k / 16, k % 16) as usize;
+        r[k] = column(&rows, states, k / 16, k % 16) as usize;
     }
     r
 }

@@ -1,8 +1,6 @@
 -- `case_reader::steps::mark` meets its contract: one store.
-use mathlib.Core.Path.{ap₂}
-use lib.Bits.{bitOr}
-use lib.ListN.{getD, set}
-use Rattle.case_reader.specs.StepRows.{marked}
+use Rattle.case_reader.specs.Read.{triple}
+use Rattle.case_reader.proofs.Marking.{marked-by}
 use borrow.Author.Needs.{needs}
 use Rattle.case_reader.proofs.steps.mark.Statement.{statement}
 use Rattle.case_reader.proofs.steps.mark.Tie as tie
@@ -26,10 +24,7 @@ array-write-next : tie.Need-array-write-next
 array-write-next c = search needs
 
 returns : tie.Need-returns
-unfolding marked
-returns c =
-    let rows = c .before .before .args .t1 in
-    ap₂ (λ p b. set rows p (bitOr (getD rows p 0) b)) (c .before .row-of .ensures) (c .bit-of .ensures)
+returns c = marked-by (c .before .before .args .t1) (triple (c .before .before .args .x)) (c .before .row-of .ensures) (c .bit-of .ensures)
 
 pub mark-spec : {M : Type 1} → statement M
 mark-spec =

@@ -3,10 +3,10 @@ use Prim.Native.Nat.{_≤_}
 use mathlib.Core.Path.{_≡_, sym, subst}
 use native.Mathlib.Omega.{arith}
 use lib.ListN.{length, drop, replicate}
-use Rattle.case_reader.specs.Read.{triple}
 use Rattle.case_model.specs.Case.{read}
+use Rattle.case_reader.specs.Read.{triple}
 use Rattle.case_reader.specs.StepRows.{StepRows}
-use Rattle.case_reader.proofs.Marking.{marks-none, marks-next}
+use Rattle.case_reader.proofs.Marking.{marks-none, marks-next, marked-by}
 use borrow.Author.Needs.{needs}
 use Rattle.case_reader.proofs.steps.step_rows.Statement.{statement}
 use Rattle.case_reader.proofs.steps.step_rows.Tie as tie
@@ -32,19 +32,36 @@ sub-i c = search needs
 step-requires : tie.Need-step-requires Inv-loop μ-loop
 step-requires c κs = search needs
 
-mark-requires : tie.Need-mark-requires Inv-loop μ-loop
-mark-requires c κs = search needs
+row-of-requires : tie.Need-row-of-requires Inv-loop μ-loop
+row-of-requires c κs = search needs
+
+mul-rows : tie.Need-mul-rows Inv-loop μ-loop
+mul-rows c = search needs
+
+array-read-rows : tie.Need-array-read-rows Inv-loop μ-loop
+array-read-rows c = search needs
+
+bit-of-requires : tie.Need-bit-of-requires Inv-loop μ-loop
+bit-of-requires c κs = search needs
+
+mul-rows-2 : tie.Need-mul-rows-2 Inv-loop μ-loop
+mul-rows-2 c = search needs
+
+array-write-rows : tie.Need-array-write-rows Inv-loop μ-loop
+array-write-rows c = search needs
 
 loop-less : tie.Need-loop-less Inv-loop μ-loop
 loop-less c = search needs
 
 loop-again : tie.Need-loop-again Inv-loop μ-loop
 loop-again c =
-    let f = read (c .before .before .before .before .before .before .args .file .now) in
-    let (l, R) = c .before .before .before .loop .inv in
-    let x = triple (c .before .step .result) in (
+    let at-loop = c .before .before .before .before in
+    let f = read (at-loop .before .before .before .args .file .now) in
+    let (l, R) = at-loop .loop .inv in
+    let x = triple (c .before .before .step .result) in (
       omega arith,
-      marks-next (f .steps) (c .before .before .before .loop .i) x R (omega arith) l (c .before .step .ensures .is) (c .mark .ensures),
+      marks-next (f .steps) (at-loop .loop .i) x R (omega arith) l (c .before .before .step .ensures .is)
+          (marked-by (at-loop .loop .rows) x (c .before .row-of .ensures) (c .bit-of .ensures)),
     )
 
 returns : tie.Need-returns Inv-loop μ-loop
@@ -63,7 +80,12 @@ step-rows-spec =
     loop-holds
     sub-i
     step-requires
-    mark-requires
+    row-of-requires
+    mul-rows
+    array-read-rows
+    bit-of-requires
+    mul-rows-2
+    array-write-rows
     loop-less
     loop-again
     returns)
