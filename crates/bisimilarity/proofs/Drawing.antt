@@ -74,6 +74,9 @@ module _ {c : Case} (valid : ValidTable mostStates c) (g : Graph)
   pub drawn : Drawn c g
   unfolding table
   drawn = record {
-    sized = record { few = omega (arith, states, valid .few); within = λ s a h. rw (row-set s a h, states) (setOf-lt (length (c .labels)) (listed (c .steps) s a)) };
+    sized = record {
+      few = omega (arith, states, valid .few);
+      within = λ s a h. rw (row-set s a h, states) (setOf-lt (length (c .labels)) (listed (c .steps) s a));
+    };
     is = λ i. record { n = states i; label = λ s. labels s i; step = λ s a t. steps-are s a t i };
   }

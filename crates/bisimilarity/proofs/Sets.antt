@@ -56,8 +56,13 @@ all-more p k e q = ap₂ (λ a b. a && b) e q ∙ ap (λ j. forAll j p) (sym (ad
 -- ---- sets that meet
 -- a set is not empty exactly if some state is in it
 some-has : (n x : ℕ) → x < 2 ^ n → not (eqb x 0) ≡ forSome n (has x)
-some-has n x h = bool-ext _ _ (λ u. go u (forSome n (has x)) refl) (λ u. let (t, k, v) = forSome-use n (has x) u in not-T (eqb x 0) (λ e. subst T (has-empty t) (subst (λ y. T (has y t)) (eqb→eq x 0 e) v)))
+some-has n x h = bool-ext _ _ (λ u. go u (forSome n (has x)) refl) back
   where
+    back : T (forSome n (has x)) → T (not (eqb x 0))
+    back u =
+        let (t, k, v) = forSome-use n (has x) u in
+        not-T (eqb x 0) (λ e. subst T (has-empty t) (subst (λ y. T (has y t)) (eqb→eq x 0 e) v))
+
     go : T (not (eqb x 0)) → (b : Bool) → forSome n (has x) ≡ b → T (forSome n (has x))
     go u true e = subst T (sym e) tt
     go u false e =

@@ -37,7 +37,7 @@ pub fn draw(file: &[u8]) -> Graph
 {
     let states = state_count(file);
     let labels = labels(file);
-    let successors = step_rows(file);
+    let successors = step_rows(file, false);
     Graph {
         states,
         labels,

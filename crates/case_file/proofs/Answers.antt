@@ -1,4 +1,5 @@
 -- What a caller learns of vetting's answer: the counts are those of an accepted case and small, and so is a refusal's place.
+-- By cases on what the rows found: nothing, and the reply is an answer, or a refusal, which is the reply.
 use Prim.Native.Nat.{ℕ, _^_, _≤_, _<_}
 use mathlib.Core.List.{List}
 use mathlib.Core.Path.{_≡_, refl, sym, ap, subst, _∙_}
@@ -31,12 +32,14 @@ replied-refused sound a k p e = cc
 replied-refused (refused j q) a k p e = cc
 
 -- a case says that no refusal was found, and has the counts of the file
-pub accepts : (f : List ℕ) {v : Vetted} (x : Case) → v ≡ vetted.Case x → vettedReply v ≡ accepting standard f → (refusals standard f ≡ sound) × (counts (read f) ≡ countsOf x)
+pub accepts : (f : List ℕ) {v : Vetted} (x : Case) → v ≡ vetted.Case x → vettedReply v ≡ accepting standard f
+    → (refusals standard f ≡ sound) × (counts (read f) ≡ countsOf x)
 unfolding accepting
 accepts f x q e = replied-sound (refusals standard f) (counts (read f)) (countsOf x) (sym e ∙ ap vettedReply q)
 
 -- a refusal is the one that was found
-pub turned-back : (f : List ℕ) {v : Vetted} (x : Refusal) → v ≡ vetted.Refused x → vettedReply v ≡ accepting standard f → refusals standard f ≡ refused (number (x .reason)) (x .place)
+pub turned-back : (f : List ℕ) {v : Vetted} (x : Refusal) → v ≡ vetted.Refused x → vettedReply v ≡ accepting standard f
+    → refusals standard f ≡ refused (number (x .reason)) (x .place)
 unfolding accepting
 turned-back f x q e = replied-refused (refusals standard f) (counts (read f)) _ _ (sym e ∙ ap vettedReply q)
 

@@ -1,4 +1,3 @@
-pub mod Chain
 pub mod Stages
 pub mod Answers
 pub mod Opening

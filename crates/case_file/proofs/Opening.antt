@@ -1,4 +1,5 @@
 -- What the answer of vetting tells of the section that is opened.
+-- An answer says that row 1 passed, so the section lies within the file; a refusal opens the empty part.
 use Prim.Native.Nat.{ℕ, _+_, _≤_, _<_}
 use mathlib.Core.List.{List, []}
 use mathlib.Core.Path.{_≡_, sym, ap, _∙_}

@@ -1,4 +1,5 @@
 -- A chain of tests is the rows that they find, one after the other; and what a chain that found nothing tells.
+-- By `orElse`, which is associative and finds nothing only where neither side does.
 use Prim.Native.Nat.{ℕ}
 use mathlib.Core.Bool.{true}
 use mathlib.Core.List.{List}

@@ -1,6 +1,5 @@
 -- The number and values that docs/SPECIFICATION.md has for each case of the code's enums: sections 7 and 8.
 use Prim.Native.Nat.{ℕ}
-use Rattle.case_model.specs.Limits as byModel
 use Rattle.case_model.specs.Rows.{Found, sound, refused}
 use Rattle.case_model.specs.Replies.{Reply, answers, refuses, Counts}
 use Rattle.case_file.specs.declared.reason.Reason.{Reason}
@@ -10,7 +9,6 @@ use Rattle.case_file.specs.declared.vetting.Vetted.{Vetted}
 use Rattle.case_file.specs.declared.vetting.Vetted.the-variants as vetted
 use Rattle.case_file.specs.declared.vetting.Finding.{Finding}
 use Rattle.case_file.specs.declared.vetting.Finding.the-variants as finding
-use Rattle.case_file.specs.declared.vetting.Limits.{Limits}
 use Rattle.case_file.specs.declared.written.Written.{Written}
 use Rattle.case_file.specs.declared.written.Written.the-variants as written
 
@@ -46,6 +44,3 @@ vettedReply (vetted.Refused r) = refuses (number (r .reason)) (r .place)
 abbrev pub writtenReply : Written → Reply ℕ
 writtenReply (written.Bytes n) = answers n
 writtenReply (written.Refused r) = refuses (number (r .reason)) (r .place)
-
-abbrev pub limitsOf : Limits → byModel.Limits
-limitsOf l = record { longest = l .longest; states = l .states }

@@ -1,23 +1,14 @@
 -- What the tests of vetting keep, one after the other. The private contracts cite these; the public ones do not.
 use Prim.Native.Nat.{ℕ, _≤_, _<_}
-use mathlib.Core.Bool.{Bool}
 use mathlib.Core.List.{List}
 use mathlib.Core.Path.{_≡_}
 use lib.ListN.{length}
 use Rattle.case_model.specs.Limits.{mostNodes}
 use Rattle.case_model.specs.Case as model
-use Rattle.case_model.specs.Rows.{Found, sound, _orElse_, stepWrong, nodeWrong, binderWrong}
+use Rattle.case_model.specs.Rows.{Found, sound, _orElse_}
 use Rattle.case_model.specs.Replies.{counts}
 use Rattle.case_file.specs.EnumNumbers.{found, countsOf}
-use Rattle.case_file.specs.declared.tests.Search.{Search}
-use Rattle.case_file.specs.declared.tests.Search.the-variants as search
 use Rattle.case_file.specs.declared.vetting.Vetting.{Vetting}
-
--- the test of each search
-abbrev pub wrong : model.Case → Search → ℕ → Bool
-wrong c search.Step i = stepWrong c i
-wrong c search.Node i = nodeWrong c i
-wrong c search.Binder i = binderWrong c i
 
 -- a state of the vetting of f, with what it has found
 pub record Stage (f : List ℕ) (r : Vetting) (what : Found) : Type 0 where

@@ -1,33 +1,26 @@
 // Vetting: from refusal 1 up, each test a step of a state that goes by value.
 ghost use mathlib.Core.Path.{_≡_};
-ghost use Prim.Native.Nat.{_≤_, _<_};
-ghost use lib.ListN.{length};
 ghost use Rattle.case_model.specs.Case.{read};
-ghost use Rattle.case_model.specs.Rows.{_orElse_, unless, rootClosed, row1, row2, row3, row4, row5, row6, row7, row8, refusals, sound};
-ghost use Rattle.case_model.specs.Limits.{mostNodes, sections, standard};
+ghost use Rattle.case_model.specs.Rows.{_orElse_, unless, row1, row2, row3, row4, row5, row6, row7, row8, refusals, sound};
+ghost use Rattle.case_model.specs.Limits.{sections, standard};
 ghost use Rattle.case_model.specs.Replies.{accepting, replied};
-ghost use Rattle.case_file.specs.EnumNumbers.{number, vettedReply, found, countsOf, limitsOf};
+ghost use Rattle.case_file.specs.EnumNumbers.{number, vettedReply, found, countsOf};
+ghost use Rattle.case_tests.specs.RowTests.{limitsOf};
 ghost use Rattle.case_file.specs.VettingStages.{Stage, Went, MayClose};
 use crate::reason::Reason;
 use crate::reason::Refusal;
-use crate::tests::Search;
-use crate::tests::first_wrong;
-use crate::tests::labels_hold;
-use crate::tests::pairs_hold;
-use crate::tests::rule_holds;
 use case_reader::Kind;
-use case_reader::masks;
 use case_reader::node_count;
-use case_reader::root;
 use case_reader::section_size;
 use case_reader::state_count;
 use case_reader::step_count;
-
-// What a judge may set for itself: the length of the longest file, and how many states there can be.
-pub(crate) struct Limits {
-    pub(crate) longest: usize,
-    pub(crate) states: usize,
-}
+use case_tests::Limits;
+use case_tests::Search;
+use case_tests::first_wrong;
+use case_tests::labels_hold;
+use case_tests::pairs_hold;
+use case_tests::root_closed;
+use case_tests::rule_holds;
 
 // An accepted case: how many states and nodes it has.
 pub struct Case {
@@ -43,7 +36,7 @@ impl Case {
 
     pub const STATES: usize = 16;
 
-    pub const NODES: usize = 64;
+    pub const NODES: usize = case_tests::NODES;
 
     pub const ACTIONS: usize = Kind::ACTIONS;
 
@@ -116,14 +109,6 @@ fn earlier(before: Finding, now: Finding) -> Finding
         return before;
     };
     now
-}
-
-// The root's entry in the table of free variables is empty.
-fn root_closed(file: &[u8]) -> bool
-    requires { ⌜ (length (read (now file) .nodes) ≤ mostNodes) × (read (now file) .root < length (read (now file) .nodes)) ⌝ }
-    ensures { λ r. ⌜ r ≡ rootClosed (read (now (file .entry))) ⌝ }
-{
-    masks(file)[root(file)] == 0
 }
 
 impl Vetting {

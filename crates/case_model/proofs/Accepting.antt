@@ -49,7 +49,8 @@ module _ (c : Case) (valid : Valid standard c) where
   pub valid-accepted : refusals standard (write c) ≡ sound
   unfolding refusals
   valid-accepted =
-      subst (λ (d : Case). row1 standard (write c) orElse row2 standard d orElse row3 (write c) d orElse row4 (write c) d orElse row5 d orElse row6 d orElse row7 d ≡ sound)
+      let f : List ℕ = write c in
+      subst (λ (d : Case). row1 standard f orElse row2 standard d orElse row3 f d orElse row4 f d orElse row5 d orElse row6 d orElse row7 d ≡ sound)
       (sym (read-write c))
       (rw (
         pairs-hold,

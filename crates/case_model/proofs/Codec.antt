@@ -32,14 +32,16 @@ pairs-offset : (l : List (List ℕ)) (r : List ℕ) (from k : ℕ) → k < lengt
 pairs-offset [] r from k h = absurd (not-suc-le-zero h)
 pairs-offset (s ∷ l) r from zero h = word-back from ∙ omega arith
 pairs-offset (s ∷ l) r from (suc k) h =
-    past from (length s) (pairs (from + length s) (map length l) ++ r) (4 * k) (4 * suc k) (omega arith) ∙ pairs-offset l r (from + length s) k (le-of-suc-le-suc h)
+    past from (length s) (pairs (from + length s) (map length l) ++ r) (4 * k) (4 * suc k) (omega arith)
+    ∙ pairs-offset l r (from + length s) k (le-of-suc-le-suc h)
     ∙ omega (arith, length-append s (joined (take k l)))
 
 pairs-size : (l : List (List ℕ)) (r : List ℕ) (from k : ℕ) → k < length l → size (pairs from (map length l) ++ r) k ≡ length (getD l k [])
 pairs-size [] r from k h = absurd (not-suc-le-zero h)
 pairs-size (s ∷ l) r from zero h = word-back (length s)
 pairs-size (s ∷ l) r from (suc k) h =
-    past from (length s) (pairs (from + length s) (map length l) ++ r) (4 * k + 2) (4 * suc k + 2) (omega arith) ∙ pairs-size l r (from + length s) k (le-of-suc-le-suc h)
+    past from (length s) (pairs (from + length s) (map length l) ++ r) (4 * k + 2) (4 * suc k + 2) (omega arith)
+    ∙ pairs-size l r (from + length s) k (le-of-suc-le-suc h)
 
 pub length-pairs : (l : List ℕ) (from : ℕ) → length (pairs from l) ≡ 4 * length l
 length-pairs [] from = refl
@@ -86,7 +88,8 @@ module _ (l : List (List ℕ)) where
   -- byte x of section k
   pub packed-at : (k x : ℕ) → k < length l → x < length (getD l k []) → byteAt (packed l) (offset (packed l) k + x) ≡ getD (getD l k []) x 0
   packed-at k x h b =
-      let e : offset (packed l) k + x ≡ length (pairs (4 * length l) (map length l)) + (start 0 l k + x) = omega (arith, packed-offset k h, length-pairs (map length l) (4 * length l), length-map l length) in
+      let e : offset (packed l) k + x ≡ length (pairs (4 * length l) (map length l)) + (start 0 l k + x) =
+      omega (arith, packed-offset k h, length-pairs (map length l) (4 * length l), length-map l length) in
       rw e (unfold packed in getD-append-add (pairs (4 * length l) (map length l)) (joined l) (start 0 l k + x) 0 ∙ joined-at l k x b)
 
   -- section k is element k
@@ -113,8 +116,10 @@ module _ (l : List (List ℕ)) where
       triple i b =
           let n : length (getD l k []) ≡ 3 * length t + length r = long in
           let o : ℕ = offset (packed l) k + 3 * i in
-          (λ z. (byte (3 * i) o (omega arith) refl z, byte (3 * i + 1) (o + 1) (omega arith) (omega arith) z, byte (3 * i + 2) (o + 2) (omega arith) (omega arith) z))
-          ∙ flat-at t r i b
+          let b0 = byte (3 * i) o (omega arith) refl in
+          let b1 = byte (3 * i + 1) (o + 1) (omega arith) (omega arith) in
+          let b2 = byte (3 * i + 2) (o + 2) (omega arith) (omega arith) in
+          (λ z. (b0 z, b1 z, b2 z)) ∙ flat-at t r i b
 
 -- ---- a written case
 module _ (c : Case) where

@@ -125,7 +125,8 @@ module _ (f : List ℕ) (ok : refusals standard f ≡ sound) where
   rewriting-stands law j room new = go (change (c .nodes) law j) refl
     where
       go : (e : Change) → change (c .nodes) law j ≡ e
-          → replied (refusals standard f orElse unless (isThere e) 11 0 orElse unless (leb (length (rewrite c j e .nodes)) mostNodes) 12 0 orElse row13 (write (rewrite c j e)) room)
+          → replied (refusals standard f orElse unless (isThere e) 11 0 orElse unless (leb (length (rewrite c j e .nodes)) mostNodes) 12 0
+          orElse row13 (write (rewrite c j e)) room)
           (write (rewrite c j e)) ≡ answers new
           → Stands f new (λ s. s)
       go nothing is e =
@@ -134,7 +135,8 @@ module _ (f : List ℕ) (ok : refusals standard f ≡ sound) where
           absurd (omega arith)
       go (swap l g) is e =
           let d : Case = rewrite c j (swap l g) in
-          let (x, q) = answered (refusals standard f orElse sound orElse unless (leb (length (d .nodes)) mostNodes) 12 0 orElse row13 (write d) room) (write d) new e in
+          let last : Found = row13 (write d) room in
+          let (x, q) = answered (refusals standard f orElse sound orElse unless (leb (length (d .nodes)) mostNodes) 12 0 orElse last) (write d) new e in
           let few : length (d .nodes) ≤ mostNodes = leb-true _ _ (search rows depth 10) in
           subst (λ z. Stands f z (λ s. s)) q (rewrite-stands law j is few)
 
@@ -163,7 +165,8 @@ unfolding book
 edits-stand first b [] S = S
 edits-stand first b (e ∷ l) S = edits-stand first (turn b e) l (turn-stands first b e S)
 
-pub book-stands : (first : List ℕ) → refusals standard first ≡ sound → (l : List Edit) → Stands first (book (begun first) l .file) (book (begun first) l .standing)
+pub book-stands : (first : List ℕ) → refusals standard first ≡ sound → (l : List Edit)
+    → Stands first (book (begun first) l .file) (book (begun first) l .standing)
 book-stands first ok l = edits-stand first (begun first) l (record { accepted = ok; within = λ s i. i; same = λ s i. refl })
 
 -- over judging itself

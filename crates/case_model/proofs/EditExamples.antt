@@ -46,7 +46,8 @@ rewrites :
     ≡ answers (of ((6, 0, 0) ∷ (6, 1, 0) ∷ (10, 0, 1) ∷ (10, 1, 0) ∷ (10, 0, 3) ∷ (8, 4, 2) ∷ []) 5))
     × (rewriting (of ((6, 0, 0) ∷ (6, 1, 0) ∷ (8, 0, 1) ∷ (10, 2, 0) ∷ []) 3) 6 3 99
     ≡ answers (of ((6, 0, 0) ∷ (6, 1, 0) ∷ (8, 0, 1) ∷ (10, 0, 0) ∷ (10, 1, 0) ∷ (8, 3, 4) ∷ []) 5))
-unfolding rewriting change rewrite write packed refusals pairsHold chained section listOf lowest first forAll forSome both either rootClosed rule formulaAt lower nodeAt kindAt kinds free
+unfolding rewriting change rewrite write packed refusals pairsHold chained section
+    listOf lowest first forAll forSome both either rootClosed rule formulaAt lower nodeAt kindAt kinds free
 rewrites = (refl, refl, refl, refl, refl, refl, refl, refl)
 
 -- rows 8 and 10, and two states with the same loop
@@ -55,5 +56,7 @@ merges :
     × (merging F 0 1 51 ≡ refuses 10 0)
     × (merging F 1 1 51 ≡ refuses 10 0)
     × (merging (caseOf (5 ∷ 5 ∷ []) ((0, 3, 1) ∷ (1, 3, 1) ∷ []) ((5, 0, 0) ∷ []) 0) 1 0 99 ≡ answers (caseOf (5 ∷ []) ((0, 3, 0) ∷ []) ((5, 0, 0) ∷ []) 0))
-unfolding merging merge moved movedSteps inOrder alike forSomeFun forAllFun bisimulation met implies has table listed write packed refusals pairsHold chained section listOf lowest first forAll forSome both either rootClosed rule formulaAt lower nodeAt kindAt kinds free
+unfolding merging merge moved movedSteps inOrder alike forSomeFun forAllFun bisimulation met implies has table listed
+    write packed refusals pairsHold chained section
+    listOf lowest first forAll forSome both either rootClosed rule formulaAt lower nodeAt kindAt kinds free
 merges = (refl, refl, refl, refl)

@@ -30,8 +30,13 @@ nodes =
 abbrev F : List ℕ
 F = caseOf labels steps nodes 9
 
--- the first bytes of case F
-bytes : F ≡ 12 ∷ 0 ∷ 2 ∷ 0 ∷ 14 ∷ 0 ∷ 6 ∷ 0 ∷ 20 ∷ 0 ∷ 31 ∷ 0 ∷ 0 ∷ 0 ∷ 0 ∷ 0 ∷ 1 ∷ 1 ∷ 1 ∷ 1 ∷ 4 ∷ 0 ∷ 0 ∷ 4 ∷ 1 ∷ 0 ∷ 10 ∷ 0 ∷ 1 ∷ 10 ∷ 2 ∷ 0 ∷ 12 ∷ 1 ∷ 3 ∷ 6 ∷ 0 ∷ 0 ∷ 10 ∷ 5 ∷ 4 ∷ 6 ∷ 1 ∷ 0 ∷ 8 ∷ 7 ∷ 6 ∷ 11 ∷ 0 ∷ 8 ∷ 9 ∷ []
+-- the bytes of case F
+bytes : F ≡
+    12 ∷ 0 ∷ 2 ∷ 0 ∷ 14 ∷ 0 ∷ 6 ∷ 0 ∷ 20 ∷ 0 ∷ 31 ∷ 0
+    ∷ 0 ∷ 0
+    ∷ 0 ∷ 0 ∷ 1 ∷ 1 ∷ 1 ∷ 1
+    ∷ 4 ∷ 0 ∷ 0 ∷ 4 ∷ 1 ∷ 0 ∷ 10 ∷ 0 ∷ 1 ∷ 10 ∷ 2 ∷ 0 ∷ 12 ∷ 1 ∷ 3 ∷ 6 ∷ 0 ∷ 0 ∷ 10 ∷ 5 ∷ 4 ∷ 6 ∷ 1 ∷ 0 ∷ 8 ∷ 7 ∷ 6 ∷ 11 ∷ 0 ∷ 8
+    ∷ 9 ∷ []
 unfolding write packed
 bytes = refl
 
@@ -54,15 +59,18 @@ rows :
     × (vetting (caseOf labels steps nodes 4) 0 ≡ refuses 7 0)
     × (vetting (caseOf labels steps nodes 5) 0 ≡ answers (record { states = 2; nodes = 10 }))
     × (vetting F 3 ≡ refuses 8 0)
-unfolding write packed vetting refusals pairsHold chained section listOf lowest first forAll forSome both either rootClosed rule formulaAt lower nodeAt kindAt kinds free
+unfolding write packed vetting refusals pairsHold chained section
+    listOf lowest first forAll forSome both either rootClosed rule formulaAt lower nodeAt kindAt kinds free
 rows = (refl, refl, refl, refl, refl, refl, refl, refl, refl, refl, refl, refl, refl, refl)
 
--- row 1: each section begins where the one before ends, and the last ends with the file. One state, no steps, τ; then a byte left between two sections, and one after the last
+-- row 1: each section begins where the one before ends, and the last ends with the file.
+-- One state, no steps, τ; then a byte left between two sections, and one after the last
 chains :
     (vetting (12 ∷ 0 ∷ 1 ∷ 0 ∷ 13 ∷ 0 ∷ 0 ∷ 0 ∷ 13 ∷ 0 ∷ 4 ∷ 0 ∷ 0 ∷ 5 ∷ 0 ∷ 0 ∷ 0 ∷ []) 0 ≡ answers (record { states = 1; nodes = 1 }))
     × (vetting (12 ∷ 0 ∷ 1 ∷ 0 ∷ 13 ∷ 0 ∷ 0 ∷ 0 ∷ 14 ∷ 0 ∷ 4 ∷ 0 ∷ 0 ∷ 0 ∷ 5 ∷ 0 ∷ 0 ∷ 0 ∷ []) 0 ≡ refuses 1 0)
     × (vetting (12 ∷ 0 ∷ 1 ∷ 0 ∷ 13 ∷ 0 ∷ 0 ∷ 0 ∷ 13 ∷ 0 ∷ 4 ∷ 0 ∷ 0 ∷ 5 ∷ 0 ∷ 0 ∷ 0 ∷ 0 ∷ []) 0 ≡ refuses 1 0)
-unfolding vetting refusals pairsHold chained section listOf lowest first forAll forSome both either rootClosed rule formulaAt lower nodeAt kindAt kinds free
+unfolding vetting refusals pairsHold chained section
+    listOf lowest first forAll forSome both either rootClosed rule formulaAt lower nodeAt kindAt kinds free
 chains = (refl, refl, refl)
 
 -- where two rows are met, the lower number is told
@@ -74,10 +82,12 @@ rising :
     × (vetting (caseOf labels steps (set (set nodes 4 (12, 0, 3)) 5 (6, 8, 0)) 9) 0 ≡ refuses 5 5)
     × (vetting (caseOf labels steps (set nodes 4 (12, 0, 3)) 1) 0 ≡ refuses 6 9)
     × (vetting (caseOf labels steps nodes 4) 3 ≡ refuses 7 0)
-unfolding write packed vetting refusals pairsHold chained section listOf lowest first forAll forSome both either rootClosed rule formulaAt lower nodeAt kindAt kinds free
+unfolding write packed vetting refusals pairsHold chained section
+    listOf lowest first forAll forSome both either rootClosed rule formulaAt lower nodeAt kindAt kinds free
 rising = (refl, refl, refl, refl, refl, refl, refl)
 
 -- an opened section is its bytes; a refusal opens nothing
 parts : (opening F 1 ≡ 0 ∷ 0 ∷ 1 ∷ 1 ∷ 1 ∷ 1 ∷ []) × (opening F 3 ≡ [])
-unfolding write packed vetting opening refusals pairsHold chained section listOf lowest first forAll forSome both either rootClosed rule formulaAt lower nodeAt kindAt kinds free
+unfolding write packed vetting opening refusals pairsHold chained section
+    listOf lowest first forAll forSome both either rootClosed rule formulaAt lower nodeAt kindAt kinds free
 parts = (refl, refl)

@@ -8,7 +8,8 @@ use lib.ListN.{length}
 use Rattle.flc.specs.Formula.{Atom, top, bottom, tau, prop, nprop, dia, box, Op, or, and, chop, atom, var}
 use Rattle.flc.specs.Nodes.{two, bind}
 use Rattle.case_model.specs.Limits.{variables}
-use Rattle.case_model.specs.Kinds.{Triple, Operand, unused, under, lowerNode, Kind, leafKind, twoKind, binderKind, kinds, kindOf, kindAt, nodeOf, isBinder}
+use Rattle.case_model.specs.Kinds.{Triple, Operand, unused, under, lowerNode, Kind, leafKind, twoKind, binderKind}
+use Rattle.case_model.specs.Kinds.{kinds, kindOf, kindAt, nodeOf, isBinder}
 
 -- what a leaf's operand can be: it names no node, and it is a byte
 abbrev pub OfLeaf : Operand → Type 0

@@ -60,8 +60,10 @@ frees-lawful = record {
   law1 = λ p w t. either-right _ _ t;
   law2 = λ p w t. either-left _ _ t;
   law3 = λ a c p w t. absurd t;
-  law4 = λ p q r w. either-use _ _ (λ t. either-left _ _ (either-left _ _ t)) (either-use _ _ (λ t. either-left _ _ (either-right _ _ t)) (λ t. either-right _ _ t));
-  law5 = λ p q r w. either-use _ _ (either-use _ _ (λ t. either-left _ _ t) (λ t. either-right _ _ (either-left _ _ t))) (λ t. either-right _ _ (either-right _ _ t));
+  law4 = λ p q r w. either-use _ _ (λ t. either-left _ _ (either-left _ _ t))
+      (either-use _ _ (λ t. either-left _ _ (either-right _ _ t)) (λ t. either-right _ _ t));
+  law5 = λ p q r w. either-use _ _ (either-use _ _ (λ t. either-left _ _ t) (λ t. either-right _ _ (either-left _ _ t)))
+      (λ t. either-right _ _ (either-right _ _ t));
   law6 = λ o c p q r w. either-use _ _
       (either-use _ _ (λ t. either-left _ _ (either-left _ _ t)) (λ t. either-right _ _ t))
       (either-use _ _ (λ t. either-left _ _ (either-right _ _ t)) (λ t. either-right _ _ t));

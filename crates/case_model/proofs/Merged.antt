@@ -27,7 +27,8 @@ use Rattle.case_model.specs.Valid.{ValidTable, Valid}
 use Rattle.case_model.proofs.Steps.{InRange, listed-in}
 use Rattle.case_model.proofs.Accepting.{valid-accepted}
 use Rattle.case_model.proofs.StepOrder.{inOrder-next, listed-inOrder, inOrder-in, steps-right}
-use Rattle.case_model.proofs.MovedStates.{stays, stays-low, stays-high, stays-lt, lt-stays, moved-at, moved-lt, stays-moved, movedSteps-use, movedSteps-mk}
+use Rattle.case_model.proofs.MovedStates.{stays, stays-low, stays-high, stays-lt, lt-stays, stays-moved}
+use Rattle.case_model.proofs.MovedStates.{moved-at, moved-lt, movedSteps-use, movedSteps-mk}
 
 -- alike states are in the set x or neither is
 abbrev pub UnionOfClasses : Case → ℕ → Type 0
@@ -137,7 +138,8 @@ module _ {c : Case} (valid : Valid standard c) (k r : ℕ) (kr : k < r) (rn : r 
     unfolding table
     stood s t i j a = elim (ℕ-discrete t r) [
       | yes e ↦ rw (e, moved-at k r, stays-low r k kr)
-          (alike-trans (table c) (valid-acts (valid .table)) s r k i rn (omega arith) (rw e at a) (alike-sym (table c) (valid-acts (valid .table)) k r (omega arith) rn kr-alike))
+          (alike-trans (table c) (valid-acts (valid .table)) s r k i rn (omega arith) (rw e at a)
+          (alike-sym (table c) (valid-acts (valid .table)) k r (omega arith) rn kr-alike))
       | no n ↦ rw (stays-moved k r t n) a
     ]
 
@@ -148,10 +150,13 @@ module _ {c : Case} (valid : Valid standard c) (k r : ℕ) (kr : k < r) (rn : r 
     stands-bisim : Bisim (table c) (table (merge c k r)) Stands
     unfolding table
     stands-bisim s u i j h =
-        let P : Matched (table c) (table c) (Holds (alike (table c))) s (stays r u) = alike-bisim (table c) (valid-acts (valid .table)) s (stays r u) i (stays-in u j) h in
+        let P : Matched (table c) (table c) (Holds (alike (table c))) s (stays r u) =
+        alike-bisim (table c) (valid-acts (valid .table)) s (stays r u) i (stays-in u j) h in
         record {
           labels = P .labels ∙ sym (merge-label u);
-          forth = λ a s′ i′ e. let (t, l, v, w) = P .forth a s′ i′ e in (moved k r t, moved-in t l, merge-step u a (moved k r t) .1 (t, refl, v), stood s′ t i′ l w);
+          forth = λ a s′ i′ e.
+              let (t, l, v, w) = P .forth a s′ i′ e in
+              (moved k r t, moved-in t l, merge-step u a (moved k r t) .1 (t, refl, v), stood s′ t i′ l w);
           back = λ a w j′ e.
               let (t, m, v) = merge-step u a w .0 e in
               let l : t < length (c .labels) = listed-in (valid .table) (stays r u) a t v .to in
@@ -185,7 +190,9 @@ module _ {c : Case} (valid : Valid standard c) (k r : ℕ) (kr : k < r) (rn : r 
     carried-all = rw merge-states (setOf-ext (length (c .labels) - 1) _ _ (λ u j. has-setOf (length (c .labels)) _ (stays r u) (stays-lt r u _ rn j)))
 
     pub merge-holds : (s : ℕ) → s < length (c .labels)
-        → has (mean (table c) (rule c) none (allStates c)) s ≡ has (mean (table (merge c k r)) (rule (merge c k r)) none (allStates (merge c k r))) (moved k r s)
+        → has (mean (table c) (rule c) none (allStates c)) s
+        ≡ has (mean (table (merge c k r)) (rule (merge c k r)) none (allStates (merge c k r))) (moved k r s)
     merge-holds s i =
-        merge-kept (allStates c) (λ s t i j a. has-setOf (length (c .labels)) _ s i ∙ sym (has-setOf (length (c .labels)) _ t j)) (setOf-lt (length (c .labels)) _) s i
+        merge-kept (allStates c) (λ s t i j a. has-setOf (length (c .labels)) _ s i ∙ sym (has-setOf (length (c .labels)) _ t j))
+        (setOf-lt (length (c .labels)) _) s i
         ∙ ap (λ x. has (mean (table (merge c k r)) (rule (merge c k r)) none x) (moved k r s)) carried-all

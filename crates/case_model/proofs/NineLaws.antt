@@ -181,7 +181,8 @@ module _ {c : Case} (valid : ValidRule c) where
           let p : at N a .1 < j = omega (arith, J .one, X .one) in
           let q : at N a .2 < j = omega (arith, J .one, X .other) in
           inserts _ (J .inside) (omega arith)
-          (pair chop refl p (J .other), (pair chop refl (omega arith) (omega (arith, J .other)), (pair o refl (omega arith) (omega arith), tt))) (λ R K ψ mid ih.
+          (pair chop refl p (J .other), (pair chop refl (omega arith) (omega (arith, J .other)), (pair o refl (omega arith) (omega arith), tt)))
+          (λ R K ψ mid ih.
           let m0 : ψ j ≡ op chop (ψ (at N a .1)) (ψ b) = mid 0 j (omega arith) (omega arith) in
           let m1 : ψ (suc j) ≡ op chop (ψ (at N a .2)) (ψ b) = mid 1 (suc j) (omega arith) (omega arith) in
           let m2 : ψ (j + 2) ≡ op o (ψ j) (ψ (suc j)) = mid 2 (j + 2) refl (omega arith) ∙ ap (λ n. tree n ψ) (node-op o (kindOf o, j, suc j) refl) in
@@ -219,8 +220,10 @@ given c j l g false h = no-change
 
 module _ {c : Case} (valid : ValidRule c) (j : ℕ) where
   -- the row of a law for chops, and of one for or and and
-  at-chop : (t : Bool) (l : List Triple) (g : ℕ → ℕ) → (IsOp valid chop j → t ≡ true → Fit c j l g) → Brings c j (cond (eqb (at (c .nodes) j .0) (kindOf chop) && t) (swap l g) nothing)
-  at-chop t l g h = given c j l g (eqb (at (c .nodes) j .0) (kindOf chop) && t) (λ e. h (is-op valid chop j (eqb-true _ (kindOf chop) (search and-l))) (search and-r))
+  at-chop : (t : Bool) (l : List Triple) (g : ℕ → ℕ) → (IsOp valid chop j → t ≡ true → Fit c j l g)
+      → Brings c j (cond (eqb (at (c .nodes) j .0) (kindOf chop) && t) (swap l g) nothing)
+  at-chop t l g h = given c j l g (eqb (at (c .nodes) j .0) (kindOf chop) && t) (λ e.
+      h (is-op valid chop j (eqb-true _ (kindOf chop) (search and-l))) (search and-r))
 
   at-pair : (t : Bool) (l : List Triple) (g : ℕ → ℕ) → ((o : Op) → Pointwise o → IsOp valid o j → t ≡ true → Fit c j l g)
       → Brings c j (cond ((eqb (at (c .nodes) j .0) (kindOf or) || eqb (at (c .nodes) j .0) (kindOf and)) && t) (swap l g) nothing)
@@ -240,5 +243,7 @@ module _ {c : Case} (valid : ValidRule c) (j : ℕ) where
   brings (suc (suc (suc (suc (suc (suc zero)))))) = at-chop _ _ _ (λ J e. fit-6 valid j J or tt (is-op valid or _ (eqb-true _ (kindOf or) e)))
   brings (suc (suc (suc (suc (suc (suc (suc zero))))))) = at-chop _ _ _ (λ J e. fit-6 valid j J and tt (is-op valid and _ (eqb-true _ (kindOf and) e)))
   brings (suc (suc (suc (suc (suc (suc (suc (suc zero)))))))) = at-pair _ _ _ (λ o w J e. fit-8 valid j o w J (eqb-true _ _ e))
-  brings (suc (suc (suc (suc (suc (suc (suc (suc (suc zero))))))))) = given c j _ _ _ (λ e. let (o, w, k) = pointwise (at (c .nodes) j .0) e in fit-9 valid j o w (is-op valid o j k))
+  brings (suc (suc (suc (suc (suc (suc (suc (suc (suc zero))))))))) = given c j _ _ _ (λ e.
+      let (o, w, k) = pointwise (at (c .nodes) j .0) e in
+      fit-9 valid j o w (is-op valid o j k))
   brings (suc (suc (suc (suc (suc (suc (suc (suc (suc (suc i)))))))))) = no-change

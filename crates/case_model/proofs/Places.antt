@@ -11,7 +11,8 @@ use Rattle.flc.proofs.Tests.{first-le}
 use Rattle.case_model.specs.Limits.{Limits}
 use Rattle.case_model.specs.Bytes.{byteAt, size, pairsHold}
 use Rattle.case_model.specs.Case.{Case, read, triples}
-use Rattle.case_model.specs.Rows.{Found, sound, refused, _orElse_, unless, lowest, labelsHold, ruleHolds, stepWrong, nodeWrong, binderWrong, rootClosed, refusals}
+use Rattle.case_model.specs.Rows.{Found, sound, refused, _orElse_, unless, lowest, refusals}
+use Rattle.case_model.specs.Rows.{labelsHold, stepWrong, ruleHolds, nodeWrong, binderWrong, rootClosed}
 use Rattle.case_model.proofs.Lists.{length-listOf}
 
 pub data Placed : Found → Type 0 where

@@ -57,7 +57,8 @@ module _ (g : ℕ → ℕ) (t : Triple) where
       named : (y : ℕ) → ltb y x ≡ true → ltb (g y) z ≡ true
       named y h = lt-ltb (g y) z (rises y (ltb-true y x h))
 
-      go : (κ : Kind) → Line κ → (fits (κ .first) x (t .1) && fits (κ .second) x (t .2)) ≡ true → (fits (κ .first) z (first κ) && fits (κ .second) z (second κ)) ≡ true
+      go : (κ : Kind) → Line κ → (fits (κ .first) x (t .1) && fits (κ .second) x (t .2)) ≡ true
+          → (fits (κ .first) z (first κ) && fits (κ .second) z (second κ)) ≡ true
       go _ (constant f unused n) e = e
       go _ (constant f lowerNode n) e = absurd n
       go _ (constant f (under k) n) e = e

@@ -77,7 +77,9 @@ module _ (step : ℕ → ℕ → ℕ → Bool) where
   inOrder-use : (x s a t : ℕ) → T (listed (inOrder x step) s a t) → T (step s a t)
   unfolding inOrder listed
   inOrder-use zero s a t h = absurd h
-  inOrder-use (suc x) s a t h = either-use _ _ (inOrder-use x s a t) (one (step (x / 128) (x / 16 % 8) (x % 16)) (λ u. u)) (subst T (listed-append (inOrder x step) _ s a t) h)
+  inOrder-use (suc x) s a t h =
+      either-use _ _ (inOrder-use x s a t) (one (step (x / 128) (x / 16 % 8) (x % 16)) (λ u. u))
+      (subst T (listed-append (inOrder x step) _ s a t) h)
     where
       one : (b : Bool) → (T b → T (step (x / 128) (x / 16 % 8) (x % 16))) → T (listed (cond b (numbered x ∷ []) []) s a t) → T (step s a t)
       one false f h = absurd h

@@ -43,7 +43,10 @@ module _ {n : ℕ} (few : n ≤ 16) (x y : Triple) (rx : InRange n x) (ry : InRa
       (λ l. omega (arith, ltb-true (x .0) (y .0) l))
       (λ e0. or-use (ltb (x .1) (y .1)) (eqb (x .1) (y .1) && ltb (x .2) (y .2)) (search and-r)
       (λ l. let p = eqb-true (x .0) (y .0) (search and-l) in omega (arith, ltb-true (x .1) (y .1) l))
-      (λ e1. let p = eqb-true (x .0) (y .0) (search and-l) in let q = eqb-true (x .1) (y .1) (search and-l) in omega (arith, ltb-true (x .2) (y .2) (search and-r))))
+      (λ e1.
+      let p = eqb-true (x .0) (y .0) (search and-l) in
+      let q = eqb-true (x .1) (y .1) (search and-l) in
+      omega (arith, ltb-true (x .2) (y .2) (search and-r))))
 
   pub number-rises : number x < number y → rises x y ≡ true
   number-rises h = elim (decLt (x .0) (y .0)) [
@@ -60,7 +63,9 @@ pub listed-at : (l : List Triple) (s a t : ℕ) → T (listed l s a t) → (i : 
 unfolding listed
 listed-at [] s a t h = absurd h
 listed-at (x ∷ l) s a t h = either-use _ _
-    (λ e. let r = both-right _ _ e in (0, omega arith, λ z. (eqb→eq (x .0) s (both-left _ _ e) z, eqb→eq (x .1) a (both-left _ _ r) z, eqb→eq (x .2) t (both-right _ _ r) z)))
+    (λ e.
+    let r = both-right _ _ e in
+    (0, omega arith, λ z. (eqb→eq (x .0) s (both-left _ _ e) z, eqb→eq (x .1) a (both-left _ _ r) z, eqb→eq (x .2) t (both-right _ _ r) z)))
     (λ r. let (i, k, e) = listed-at l s a t r in (suc i, suc-le-suc k, e)) h
 
 -- from a test that says what is wrong to each part of what is right

@@ -77,13 +77,18 @@ node-small j t h e =
 pub write-bytes : (c : Case) → Valid standard c → ((i : ℕ) → byteAt (c .labels) i < 256) → (i : ℕ) → byteAt (write c) i < 256
 unfolding write packed
 write-bytes c valid labels i =
-    joint (pairs (4 * sections) (map length (parts c))) (bytes-pairs (parts c) (4 * sections) (omega (arith, length-packed (parts c), length-write c, steps-few (valid .table), valid .table .few, valid .rule .most)))
+    joint (pairs (4 * sections) (map length (parts c)))
+    (bytes-pairs (parts c) (4 * sections)
+    (omega (arith, length-packed (parts c), length-write c, steps-few (valid .table), valid .table .few, valid .rule .most)))
     (joint (c .labels) (record { small = labels }) (joint (flat (c .steps)) (bytes-flat (c .steps) step)
-    (joint (flat (c .nodes) ++ (c .root ∷ [])) (joint (flat (c .nodes)) (bytes-flat (c .nodes) node) (more (omega (arith, valid .rule .root, valid .rule .most)) none)) none)))
+    (joint (flat (c .nodes) ++ (c .root ∷ []))
+    (joint (flat (c .nodes)) (bytes-flat (c .nodes) node) (more (omega (arith, valid .rule .root, valid .rule .most)) none)) none)))
     .small i
   where
     step : (i : ℕ) → i < length (c .steps) → Small (at (c .steps) i)
-    step i h = let r = step-in (valid .table) i h in record { first = omega (arith, valid .table .few); second = omega arith; third = omega (arith, valid .table .few) }
+    step i h =
+        let r = step-in (valid .table) i h in
+        record { first = omega (arith, valid .table .few); second = omega arith; third = omega (arith, valid .table .few) }
 
     node : (j : ℕ) → j < length (c .nodes) → Small (at (c .nodes) j)
     node j h = node-small j (at (c .nodes) j) (omega (arith, valid .rule .most)) (valid .rule .kinds j h)

@@ -3,15 +3,15 @@ use Prim.Native.Nat.{ℕ, _<_}
 use mathlib.Core.Logic.{_↔_}
 use lib.Dec.{T}
 use Rattle.flc.specs.Sets.{has}
-use Rattle.flc.specs.Nodes.{Names}
+use Rattle.flc.specs.Nodes.{Node, Names}
 use Rattle.case_model.specs.Limits.{mostNodes}
 use Rattle.case_model.specs.Case.{Case, nodeAt}
 
 -- the root is reached, and what a reached node names
-pub data Reached (c : Case) : ℕ → Type 0 where
-  the-root : Reached c (c .root)
-  named : {i j : ℕ} → Reached c i → Names (nodeAt c i) j → Reached c j
+pub data Reached (N : ℕ → Node) (root : ℕ) : ℕ → Type 0 where
+  the-root : Reached N root root
+  named : {i j : ℕ} → Reached N root i → Names (N i) j → Reached N root j
 
 -- x is the set of the nodes that are reached
 pub record ReachSet (c : Case) (x : ℕ) : Type 0 where
-  pub is : (j : ℕ) → j < mostNodes → T (has x j) ↔ Reached c j
+  pub is : (j : ℕ) → j < mostNodes → T (has x j) ↔ Reached (nodeAt c) (c .root) j

@@ -9,7 +9,7 @@ use native.Mathlib.Omega.{arith}
 use borrow.Author.Tests.{eq-eqb, ne-eqb, lt-ltb, le-ltb}
 use lib.Bits.{bitOr, or-lt, and-lt}
 use lib.Dec.{T, eqb, eqb→eq, T-not}
-use lib.ListN.{length, getD, length-set, length-replicate, List·getD-eq-default}
+use lib.ListN.{length, getD, set, length-set, length-replicate, List·getD-eq-default}
 use lib.Pow.{pow-lt}
 use lib.Seq.{getD-set-same, getD-set-other}
 use Rattle.flc.specs.Sets.{both, either, forAll, has, setOf}
@@ -27,6 +27,7 @@ use Rattle.case_model.proofs.Lists.{listOf-getD, listOf-ext, zeros}
 use Rattle.case_model.proofs.Tests.{is-false}
 use Rattle.case_model.proofs.KindLines.{Line, constant, variable, pair, binder, line}
 use Rattle.case_reader.specs.NodeSets.{single, without, maskOf, masks}
+use Rattle.case_reader.proofs.Readers.{peel}
 
 -- ---- masks of trees
 -- x is the mask of the tree p
@@ -94,7 +95,15 @@ node-mask t φ m x = go (kindAt (x .0)) (line (x .0))
 
 -- ---- the table's entries
 module _ (c : Case) where
-  length-masks : (j : ℕ) → length (masks (nodeAt c) j) ≡ 64
+  -- one node more
+  pub masks-more : (j : ℕ) → (j ≡ 0 → ⊥) → {t : List ℕ} {x : Triple} {y : ℕ} → t ≡ masks (nodeAt c) (j - 1) → x ≡ at (c .nodes) (j - 1)
+      → y ≡ maskOf t (nodeOf x) → set t (j - 1) y ≡ masks (nodeAt c) j
+  unfolding nodeAt
+  masks-more j h {t} e q r =
+      ap (set t (j - 1)) (r ∙ ap (λ x. maskOf t (nodeOf x)) q) ∙ ap (λ t. set t (j - 1) (maskOf t (nodeAt c (j - 1)))) e
+      ∙ sym (peel (masks (nodeAt c)) j h)
+
+  pub length-masks : (j : ℕ) → length (masks (nodeAt c) j) ≡ 64
   length-masks zero = length-replicate {A = ℕ} 64 0
   length-masks (suc j) = length-set (masks (nodeAt c) j) j _ ∙ length-masks j
 
@@ -141,4 +150,5 @@ closed-empty c =
     let x : ℕ = setOf variables p in
     bool-ext (eqb x 0) (rootClosed c)
     (λ e. forAll-mk variables _ (λ v l. rw (← has-setOf variables p v l, eqb→eq x 0 e, has-empty v) tt))
-    (λ t. rw (set-ext 16 x 0 (setOf-lt 16 p) (omega arith) (λ v l. has-setOf 16 p v l ∙ is-false _ (T-not (p v) (forAll-use variables _ t v l)) ∙ sym (has-empty v))) tt)
+    (λ t. rw (set-ext 16 x 0 (setOf-lt 16 p) (omega arith)
+    (λ v l. has-setOf 16 p v l ∙ is-false _ (T-not (p v) (forAll-use variables _ t v l)) ∙ sym (has-empty v))) tt)

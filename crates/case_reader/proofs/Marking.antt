@@ -1,8 +1,8 @@
 -- Rows of masks as a step relation: a step marked, and the steps of a list marked from the last to the first.
 -- A mark changes one bit of one row, the step's; a step that has no place there changes nothing.
 use Prim.Native.Nat.{ℕ, suc, _+_, _*_, _-_, _%_, _^_, _≤_, _<_}
-use mathlib.Core.Bool.{Bool, true, false, _&&_, cond, or-comm}
-use mathlib.Core.List.{List, _∷_}
+use mathlib.Core.Bool.{Bool, true, false, _&&_, cond, and-comm, and-assoc, or-comm}
+use mathlib.Core.List.{List, [], _∷_}
 use mathlib.Core.Path.{_≡_, refl, sym, ap, ap₂, _∙_}
 use native.Mathlib.Decide.{ℕ-discrete, decLt}
 use native.Mathlib.Omega.{arith}
@@ -19,7 +19,7 @@ use Rattle.case_model.specs.Kinds.{Triple}
 use Rattle.case_model.specs.Case.{at, listed}
 use Rattle.case_model.proofs.Tests.{is-false}
 use Rattle.case_model.proofs.Lists.{zeros}
-use Rattle.case_reader.specs.StepRows.{relation, rowOf, bitOf, marked, StepRows}
+use Rattle.case_reader.specs.StepRows.{relation, turnedIf, stepsRead, rowOf, bitOf, marked, StepRows}
 
 -- x is the step (s, a, t)
 abbrev isStep : Triple → ℕ → ℕ → ℕ → Bool
@@ -119,18 +119,33 @@ module _ {l : List Triple} {rows : List ℕ} (R : StepRows l rows) (x : Triple) 
     is = λ s a t hs ha ht. more s a t hs ha ht ∙ ap (either (isStep x s a t)) (R .is s a t hs ha ht);
   }
 
--- ---- the steps of a list
-pub marks-none : (l : List Triple) → StepRows (drop (length l) l) (replicate 128 0)
-unfolding listed relation
-marks-none l = rw (drop-length l) (record {
-  long = refl;
-  small = λ i. rw (zeros 128 i) (omega arith);
-  is = λ s a t _ _ _. ap (λ y. has y t) (zeros 128 (8 * s + a)) ∙ has-empty t;
-})
+-- ---- the steps of a list, as they are or turned round
+module _ (turned : Bool) where
+  read-none : stepsRead turned [] ≡ []
+  read-none = elim turned as (λ b. stepsRead b [] ≡ []) [ true ↦ refl | false ↦ refl ]
 
--- from the steps after place i - 1 to those from there on
-pub marks-next : (l : List Triple) (i : ℕ) {rows next : List ℕ} (x : Triple) → StepRows (drop i l) rows → 0 < i → i ≤ length l
-    → x ≡ at l (i - 1) → next ≡ marked rows x → StepRows (drop (i - 1) l) next
-marks-next l i {rows} x R h j e q =
-    let p : i ≡ suc (i - 1) = omega arith in
-    rw (drop-cons l (i - 1) (0, 0, 0) (omega arith), ← p, q, ← e) (marks-more R x)
+  read-more : (x : Triple) (l : List Triple) → stepsRead turned (x ∷ l) ≡ turnedIf turned x ∷ stepsRead turned l
+  read-more x l = elim turned as (λ b. stepsRead b (x ∷ l) ≡ turnedIf b x ∷ stepsRead b l) [ true ↦ refl | false ↦ refl ]
+
+  pub marks-none : (l : List Triple) → StepRows (stepsRead turned (drop (length l) l)) (replicate 128 0)
+  unfolding listed relation
+  marks-none l = rw (drop-length l, read-none) (record {
+    long = refl;
+    small = λ i. rw (zeros 128 i) (omega arith);
+    is = λ s a t _ _ _. ap (λ y. has y t) (zeros 128 (8 * s + a)) ∙ has-empty t;
+  })
+
+  -- from the steps after place i - 1 to those from there on
+  pub marks-next : (l : List Triple) (i : ℕ) {rows next : List ℕ} (x : Triple) → StepRows (stepsRead turned (drop i l)) rows → 0 < i → i ≤ length l
+      → x ≡ turnedIf turned (at l (i - 1)) → next ≡ marked rows x → StepRows (stepsRead turned (drop (i - 1) l)) next
+  marks-next l i {rows} x R h j e q =
+      let p : i ≡ suc (i - 1) = omega arith in
+      rw (drop-cons l (i - 1) (0, 0, 0) (omega arith), read-more, ← p, q, ← e) (marks-more R x)
+
+-- a step is listed just if it is, turned round
+pub listed-turned : (l : List Triple) (s a t : ℕ) → listed (stepsRead true l) t a s ≡ listed l s a t
+unfolding listed both
+listed-turned [] s a t = refl
+listed-turned (x ∷ l) s a t =
+    let (p, q, r) : Bool × Bool × Bool = (eqb (x .2) t, eqb (x .1) a, eqb (x .0) s) in
+    ap₂ either (and-comm p (q && r) ∙ ap (λ b. b && p) (and-comm q r) ∙ and-assoc r q p) (listed-turned l s a t)

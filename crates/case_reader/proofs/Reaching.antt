@@ -1,6 +1,6 @@
 -- The set of the nodes that the root of a valid rule reaches is what spreading from the root makes.
 -- Spreading goes from higher nodes to lower ones, so that a node is in the set or not once and for all when its turn comes.
-use Prim.Native.Nat.{ℕ, zero, suc, _-_, _/_, _%_, _^_, _≤_, _<_}
+use Prim.Native.Nat.{ℕ, zero, suc, _/_, _%_, _^_, _≤_, _<_}
 use mathlib.Core.Bool.{true, false, cond}
 use mathlib.Core.Logic.{_⊎_, inl, inr, ⊎-elim}
 use mathlib.Core.Path.{_≡_, refl, sym, subst}
@@ -9,7 +9,7 @@ use native.Mathlib.Nat.{not-suc-le-zero}
 use native.Mathlib.Omega.{arith}
 use borrow.Author.Tests.{eq-eqb, lt-ltb}
 use lib.Bits.{bitOr}
-use lib.Dec.{T, eqb, ltb, eqb→eq}
+use lib.Dec.{T, ltb, eqb→eq}
 use lib.ListN.{length, List·getD-eq-default}
 use Rattle.flc.specs.Sets.{has}
 use Rattle.flc.specs.Nodes.{Node, leaf, two, bind, Names}
@@ -96,17 +96,24 @@ module _ (x : ℕ) (n : Node) (j : ℕ) where
 
 -- ---- all turns
 module _ (N : ℕ → Node) where
+  -- the set after node j's turn
+  abbrev turned : ℕ → ℕ → ℕ
+  turned x j = withNamed x (N j) j
+
   spread-keeps : (k x s : ℕ) → T (has x s) → T (has (spread N k x) s)
   unfolding spread
   spread-keeps zero x s t = t
-  spread-keeps (suc j) x s t = spread-keeps j (withNamed x (N j) j) s (turn-keeps x (N j) j s t)
+  spread-keeps (suc j) x s t = spread-keeps j (turned x j) s (turn-keeps x (N j) j s t)
 
-  -- only reached nodes join
-  spread-sound : (P : ℕ → Type 0) → ((i s : ℕ) → P i → Names (N i) s → P s) → (k x : ℕ) → ((s : ℕ) → T (has x s) → P s) → (s : ℕ) → T (has (spread N k x) s) → P s
-  unfolding spread
-  spread-sound P step zero x all s t = all s t
-  spread-sound P step (suc j) x all s t =
-      spread-sound P step j (withNamed x (N j) j) (λ s t. ⊎-elim (all s) (λ (u, e). step j s (all j u) e) (turn-use x (N j) j s t)) s t
+  -- only reached nodes join: what holds of the set's nodes, and passes on to the nodes that a node names, holds of all that join
+  module _ (P : ℕ → Type 0) (step : (i s : ℕ) → P i → Names (N i) s → P s) where
+    spread-sound : (k x : ℕ) → ((s : ℕ) → T (has x s) → P s) → (s : ℕ) → T (has (spread N k x) s) → P s
+    unfolding spread
+    spread-sound zero x all s t = all s t
+    spread-sound (suc j) x all s t = spread-sound j (turned x j) next s t
+      where
+        next : (s : ℕ) → T (has (turned x j) s) → P s
+        next s t = ⊎-elim (all s) (λ (u, e). step j s (all j u) e) (turn-use x (N j) j s t)
 
   module _ (low : (j : ℕ) → Lower N j) where
     -- a node's turn is past: it is in the set only if it was
@@ -114,18 +121,20 @@ module _ (N : ℕ → Node) where
     unfolding spread
     spread-high zero x i h t = t
     spread-high (suc j) x i h t =
-        ⊎-elim (λ u. u) (λ (u, e). absurd (omega (arith, low j i e))) (turn-use x (N j) j i (spread-high j (withNamed x (N j) j) i (omega arith) t))
+        let past : T (has (turned x j) i) = spread-high j (turned x j) i (omega arith) t in
+        ⊎-elim (λ u. u) (λ (u, e). absurd (omega (arith, low j i e))) (turn-use x (N j) j i past)
 
     -- what a node in the set names is in the set
     spread-closed : (k x i : ℕ) → i < k → T (has (spread N k x) i) → (s : ℕ) → s < mostNodes → Names (N i) s → T (has (spread N k x) s)
     unfolding spread
     spread-closed zero x i h t s l e = absurd (not-suc-le-zero h)
     spread-closed (suc j) x i h t s l e = elim (ℕ-discrete i j) [
-      | no q ↦ spread-closed j (withNamed x (N j) j) i (omega arith) t s l e
+      | no q ↦ spread-closed j (turned x j) i (omega arith) t s l e
       | yes q ↦
-          let u : T (has (withNamed x (N j) j) j) = spread-high j (withNamed x (N j) j) j (omega arith) (subst (λ i. T (has (spread N j (withNamed x (N j) j)) i)) q t) in
-          let w : T (has x j) = ⊎-elim (λ u. u) (λ (u, e). u) (turn-use x (N j) j j u) in
-          spread-keeps j (withNamed x (N j) j) s (turn-in x (N j) j w s l (subst (λ i. Names (N i) s) q e))
+          let end : T (has (spread N j (turned x j)) j) = subst (λ i. T (has (spread N j (turned x j)) i)) q t in
+          let past : T (has (turned x j) j) = spread-high j (turned x j) j (omega arith) end in
+          let before : T (has x j) = ⊎-elim (λ u. u) (λ (u, e). u) (turn-use x (N j) j j past) in
+          spread-keeps j (turned x j) s (turn-in x (N j) j before s l (subst (λ i. Names (N i) s) q e))
     ]
 
 -- ---- the rule's nodes
@@ -142,17 +151,27 @@ module _ {c : Case} (valid : ValidRule c) where
   abbrev start : ℕ
   start = withNode 0 (c .root)
 
-  sound : (j : ℕ) → T (has (spread (nodeAt c) mostNodes start) j) → Reached c j
-  sound = spread-sound (nodeAt c) (Reached c) (λ i s r e. named r e) mostNodes start
-      (λ s t. ⊎-elim (λ u. absurd (subst T (has-empty s) u)) (λ e. subst (Reached c) (sym e) the-root) (with-use 0 (c .root) s t))
+  -- nodes above it have no turn
+  abbrev turns : ℕ
+  turns = suc (c .root)
 
-  low : (j : ℕ) → Reached c j → j < mostNodes
-  low _ the-root = omega (arith, valid .root, valid .most)
+  sound : (j : ℕ) → T (has (spread (nodeAt c) turns start) j) → Reached (nodeAt c) (c .root) j
+  sound = spread-sound (nodeAt c) (Reached (nodeAt c) (c .root)) (λ i s r e. named r e) turns start
+      (λ s t. ⊎-elim (λ u. absurd (subst T (has-empty s) u)) (λ e. subst (Reached (nodeAt c) (c .root)) (sym e) the-root) (with-use 0 (c .root) s t))
+
+  low : (j : ℕ) → Reached (nodeAt c) (c .root) j → j < turns
+  low _ the-root = omega arith
   low j (named {i} r e) = omega (arith, all-lower i j e, low i r)
 
-  complete : (j : ℕ) → Reached c j → T (has (spread (nodeAt c) mostNodes start) j)
-  complete _ the-root = spread-keeps (nodeAt c) mostNodes start (c .root) (with-in 0 (c .root) (omega (arith, valid .root, valid .most)))
-  complete j (named {i} r e) = spread-closed (nodeAt c) all-lower mostNodes start i (low i r) (complete i r) j (low j (named r e)) e
+  pub root-place : c .root < mostNodes
+  root-place = omega (arith, valid .root, valid .most)
 
-  pub reach-set : ReachSet c (spread (nodeAt c) mostNodes start)
+  place : (j : ℕ) → Reached (nodeAt c) (c .root) j → j < mostNodes
+  place j r = omega (arith, low j r, root-place)
+
+  complete : (j : ℕ) → Reached (nodeAt c) (c .root) j → T (has (spread (nodeAt c) turns start) j)
+  complete _ the-root = spread-keeps (nodeAt c) turns start (c .root) (with-in 0 (c .root) root-place)
+  complete j (named {i} r e) = spread-closed (nodeAt c) all-lower turns start i (low i r) (complete i r) j (place j (named r e)) e
+
+  pub reach-set : ReachSet c (spread (nodeAt c) (suc (c .root)) (withNode 0 (c .root)))
   reach-set = record { is = λ j h. (sound j, complete j) }

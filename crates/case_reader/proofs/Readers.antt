@@ -1,4 +1,5 @@
--- What a reader finds at a position that it has compared with a count: an element, or the default past the end. And the step of a recursion over nodes, and an entry of the table that it fills.
+-- What a reader finds at a position that it has compared with a count: an element, or the default past the end.
+-- And the step of a recursion over nodes, and an entry of the table that it fills.
 use Prim.Native.Nat.{ℕ, suc, _-_, _≤_, _<_}
 use mathlib.Core.Bool.{cond}
 use mathlib.Core.List.{List}

@@ -1,7 +1,7 @@
--- A step relation as 128 rows of masks: bit t of row 8s + a is the step (s, a, t).
+-- A step relation as 128 rows of masks: bit t of row 8s + a is the step (s, a, t). Turned round, bit s of row 8t + a is that step.
 use Prim.Native.Nat.{ℕ, _+_, _*_, _%_, _^_, _<_}
-use mathlib.Core.Bool.{Bool, _&&_, cond}
-use mathlib.Core.List.{List}
+use mathlib.Core.Bool.{Bool, true, false, _&&_, cond}
+use mathlib.Core.List.{List, map}
 use mathlib.Core.Path.{_≡_}
 use lib.Bits.{bitOr}
 use lib.Dec.{ltb}
@@ -12,6 +12,15 @@ use Rattle.case_model.specs.Case.{listed}
 
 unfoldable pub relation : List ℕ → ℕ → ℕ → ℕ → Bool
 relation rows s a t = has (getD rows (8 * s + a) 0) t
+
+-- a step, with the flag from its end to its start; and the steps, each read so
+abbrev pub turnedIf : Bool → Triple → Triple
+turnedIf false x = x
+turnedIf true x = (x .2, x .1, x .0)
+
+abbrev pub stepsRead : Bool → List Triple → List Triple
+stepsRead false l = l
+stepsRead true l = map (turnedIf true) l
 
 -- the row of a step, and its bit, if it has a place
 abbrev pub rowOf : Triple → ℕ

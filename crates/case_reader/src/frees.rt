@@ -1,7 +1,7 @@
 // Free variables as masks, bit v for variable v: a table of the nodes, filled in rising number, so that a shared node is visited once.
 ghost use mathlib.Core.Path.{_≡_};
 ghost use Prim.Native.Nat.{_≤_};
-ghost use lib.ListN.{getD};
+ghost use lib.ListN.{length, getD, replicate};
 ghost use Rattle.case_model.specs.Kinds.{nodeOf};
 ghost use Rattle.case_model.specs.Case.{read, nodeAt};
 ghost use Rattle.case_model.specs.Limits.{mostNodes};
@@ -28,15 +28,17 @@ fn without(x: u16, v: usize) -> u16
 }
 
 // Entry i of a table, 0 past its end.
-fn entry(t: [u16; 64], i: usize) -> u16
-    ensures { λ r. ⌜ r ≡ getD t i 0 ⌝ }
+fn entry(t: &[u16; 64], i: usize) -> u16
+    requires { ⌜ length (now t) ≡ mostNodes ⌝ }
+    ensures { λ r. ⌜ r ≡ getD (now (t .entry)) i 0 ⌝ }
 {
     if i < 64 { t[i] } else { 0 }
 }
 
 // The free variables of a node, from those of the nodes that it names.
-fn mask_of(t: [u16; 64], x: Triple) -> u16
-    ensures { λ r. ⌜ r ≡ maskOf t (nodeOf (triple x)) ⌝ }
+fn mask_of(t: &[u16; 64], x: Triple) -> u16
+    requires { ⌜ length (now t) ≡ mostNodes ⌝ }
+    ensures { λ r. ⌜ r ≡ maskOf (now (t .entry)) (nodeOf (triple x)) ⌝ }
 {
     let kind = kind_of(x);
     match kind {
@@ -47,18 +49,17 @@ fn mask_of(t: [u16; 64], x: Triple) -> u16
     }
 }
 
-// Those of each node below j.
-fn below(file: &[u8], j: usize) -> [u16; 64]
-    requires { ⌜ j ≤ mostNodes ⌝ }
-    ensures { λ r. ⌜ r ≡ masks (nodeAt (read (now (file .entry)))) j ⌝ }
+// Those of each node below j, in a table that had none.
+fn below(t: &mut [u16; 64], file: &[u8], j: usize)
+    requires { ⌜ (j ≤ mostNodes) × (now t ≡ replicate mostNodes 0) ⌝ }
+    ensures { λ _. ⌜ now (t .exit) ≡ masks (nodeAt (read (now (file .entry)))) j ⌝ }
 {
     if j == 0 {
-        return [0u16; 64];
+        return;
     }
     let i = j - 1;
-    let mut t = below(file, i);
+    below(t, file, i);
     t[i] = mask_of(t, node(file, i));
-    t
 }
 
 // Those of each node of a file, of the first 64 if it has more.
@@ -66,9 +67,11 @@ pub fn masks(file: &[u8]) -> [u16; 64]
     ensures { λ r. ⌜ r ≡ freeSets (read (now (file .entry))) ⌝ }
 {
     let m = node_count(file);
+    let mut t = [0u16; 64];
     if m <= 64 {
-        below(file, m)
-    } else {
-        below(file, 64)
+        below(&mut t, file, m);
+        return t;
     }
+    below(&mut t, file, 64);
+    t
 }

@@ -51,9 +51,13 @@ fn spread(file: &[u8], k: usize, set: u64) -> u64
     spread(file, j, with_named(set, node(file, j), j))
 }
 
-// The nodes that the root of a valid rule reaches.
+// The nodes that the root of a valid rule reaches. Nodes above it are not looked at.
 pub fn reached(file: &[u8]) -> u64
     ensures { λ r. ⌜ (ValidRule (read (now (file .entry))) → ReachSet (read (now (file .entry))) r) ⌝ }
 {
-    spread(file, 64, with(0, root(file)))
+    let top = root(file);
+    if top < 64 {
+        return spread(file, top + 1, with(0, top));
+    }
+    0
 }

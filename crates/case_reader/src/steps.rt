@@ -1,12 +1,20 @@
 // The steps as a relation in 128 rows of masks: bit t of row 8s + a is the step (s, a, t). Steps of other numbers have no place in it.
+// Turned round, each step goes from its end to its start, and a row has the states with a step to one.
 ghost use mathlib.Core.Path.{_≡_};
 ghost use Prim.Native.Nat.{_<_};
 ghost use Rattle.case_model.specs.Case.{read};
 ghost use Rattle.case_reader.specs.Read.{triple};
-ghost use Rattle.case_reader.specs.StepRows.{rowOf, bitOf, marked, StepRows};
+ghost use Rattle.case_reader.specs.StepRows.{turnedIf, stepsRead, rowOf, bitOf, marked, StepRows};
 use crate::parts::Triple;
 use crate::parts::step;
 use crate::parts::step_count;
+
+// A step, or the step turned round.
+fn turned_if(x: Triple, turned: bool) -> Triple
+    ensures { λ r. ⌜ triple r ≡ turnedIf turned (triple x) ⌝ }
+{
+    if turned { Triple(x.2, x.1, x.0) } else { x }
+}
 
 // The row of a step.
 fn row_of(x: Triple) -> usize
@@ -35,15 +43,15 @@ pub fn mark(rows: [u16; 128], x: Triple) -> [u16; 128]
     next
 }
 
-// The steps of a file, from the last to the first.
-pub fn step_rows(file: &[u8]) -> [u16; 128]
-    ensures { λ r. ⌜ StepRows (read (now (file .entry)) .steps) r ⌝ }
+// The steps of a file, from the last to the first; turned round if asked.
+pub fn step_rows(file: &[u8], turned: bool) -> [u16; 128]
+    ensures { λ r. ⌜ StepRows (stepsRead turned (read (now (file .entry)) .steps)) r ⌝ }
 {
     let mut rows = [0u16; 128];
     let mut i = step_count(file);
     while 0 < i {
         i -= 1;
-        let x = step(file, i);
+        let x = turned_if(step(file, i), turned);
         let at = row_of(x);
         rows[at] = rows[at] | bit_of(x);
     }

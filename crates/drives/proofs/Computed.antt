@@ -83,5 +83,7 @@ passes d t =
 
 -- every drive of the table passes
 pub drives-right : Each Right drives
-unfolding drives test isSound each takes look pack packed loop set start onMasks eval runNode run lower meanAtom both either implies forAll forSome first has setOf free formulaAt listOf chained pairsHold section listed table kinds kindAt nodeAt rule lowest rootClosed refusals
+unfolding drives test isSound each takes look pack packed loop set start onMasks eval runNode run lower meanAtom
+    both either implies forAll forSome first has setOf free formulaAt listOf chained pairsHold section listed table
+    kinds kindAt nodeAt rule lowest rootClosed refusals
 drives-right = each-use test Right passes drives tt

@@ -112,7 +112,9 @@ alike-refl L s i = alike-mk L eqb same s s i i (eqb-refl s)
 pub alike-sym : (L : Table) → Acts L → (s t : ℕ) → s < L .n → t < L .n → T (alike L s t) → T (alike L t s)
 alike-sym L A s t i j h =
     alike-mk L (λ x y. alike L y x)
-    (λ x y k l u. let P : Matched L L (Holds (alike L)) y x = alike-bisim L A y x l k u in record { labels = sym (P .labels); forth = P .back; back = P .forth })
+    (λ x y k l u.
+    let P : Matched L L (Holds (alike L)) y x = alike-bisim L A y x l k u in
+    record { labels = sym (P .labels); forth = P .back; back = P .forth })
     t s j i h
 
 pub alike-trans : (L : Table) → Acts L → (s t u : ℕ) → s < L .n → t < L .n → u < L .n → T (alike L s t) → T (alike L t u) → T (alike L s u)

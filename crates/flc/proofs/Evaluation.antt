@@ -124,7 +124,8 @@ module _ (n : ℕ) (F : ℕ → ℕ) where
     loop-rounds (suc k) i =
         let t : ℕ = packed n (A i) in
         let e : eqb t (F t) ≡ agree n (A i) (A (suc i)) = ap (eqb t) (h i) ∙ packed-eqb (G i) (G (suc i)) in
-        let r : suc i + (loop F k (F t)) .1 ≡ first (λ i. agree n (A i) (A (suc i))) (suc i) k = ap (λ t. suc i + (loop F k t) .1) (h i) ∙ loop-rounds k (suc i) in
+        let r : suc i + (loop F k (F t)) .1 ≡ first (λ i. agree n (A i) (A (suc i))) (suc i) k =
+        ap (λ t. suc i + (loop F k t) .1) (h i) ∙ loop-rounds k (suc i) in
         subst (λ b. i + (cond b (t, 0) (once (loop F k (F t)))) .1 ≡ first (λ i. agree n (A i) (A (suc i))) i (suc k)) (sym e)
         (elim (agree n (A i) (A (suc i))) as (λ b. i + (cond b (t, 0) (once (loop F k (F t)))) .1 ≡ cond b i (first (λ i. agree n (A i) (A (suc i))) (suc i) k))
         [ true ↦ add-zero i | false ↦ omega arith ])
@@ -219,7 +220,8 @@ module _ (L : Table) where
   node-approx (leaf p) φ k x i = value-packed p _ x (eval-closed p) i
   node-approx (two o a b) φ k x i = value-packed (op o (φ a) (φ b)) _ x (eval-closed (op o (φ a) (φ b))) i
   node-approx (bind d v b) φ k x i =
-      ap (λ t. look (2 ^ L .n) t x) (bound-last L (φ b) (eval L (φ b)) (eval-mean L (φ b)) d v (nowhere (L .n)) none (none-good (L .n)) (nowhere-packs (L .n)) k)
+      ap (λ t. look (2 ^ L .n) t x)
+      (bound-last L (φ b) (eval L (φ b)) (eval-mean L (φ b)) d v (nowhere (L .n)) none (none-good (L .n)) (nowhere-packs (L .n)) k)
       ∙ look-packed (approx-good d (mean-steady L (φ b) v none (none-good (L .n))) k) x i
 
   -- ---- the root j of a list of nodes

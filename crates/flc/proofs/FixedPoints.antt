@@ -8,13 +8,10 @@ use Rattle.flc.specs.Sets.{both, implies, has, setOf}
 use Rattle.flc.specs.Functions.{Fun, below, monotone, forAllFun, forSomeFun, meet, join, approximant}
 use Rattle.flc.proofs.Tests.{implies-use, implies-mk, both-left, both-right, both-mk, not-not, not-both}
 use Rattle.flc.proofs.Masks.{has-setOf, setOf-lt}
-use Rattle.flc.proofs.Order.{below-flip, below-antisym, agree-below, below-trans, good-mono, good-by, good-agree, below-use, below-mk, monotone-use, monotone-mk, cut, cut-at, forAllFun-use, forAllFun-mk}
+use Rattle.flc.proofs.Order.{below-flip, below-antisym, agree-below, below-trans, below-use, below-mk, good-mono, good-by, good-agree}
+use Rattle.flc.proofs.Order.{monotone-use, monotone-mk, cut, cut-at, forAllFun-use, forAllFun-mk}
 use Rattle.flc.specs.Order.{signed, In, Below, Agree, Good}
-
--- the least for the flag true, the greatest for false
-abbrev pub fixed : Bool → ℕ → (Fun → Fun) → Fun
-fixed true n F = meet n F
-fixed false n F = join n F
+use Rattle.flc.specs.Iterates.{fixed, iterate, Rising}
 
 -- F takes monotone functions to monotone functions and keeps their order
 pub record Steady (n : ℕ) (F : Fun → Fun) : Type 0 where
@@ -26,6 +23,12 @@ pub steady-rises : (d : Bool) {n : ℕ} {F : Fun → Fun} → Steady n F
     → (f g : Fun) → Good n f → Good n g → Below d n f g → Below d n (F f) (F g)
 steady-rises true S f g A B h = S .rises f g A B h
 steady-rises false {n} {F} S f g A B h = below-flip true n (F g) (F f) (S .rises g f B A (below-flip false n f g h))
+
+-- and agreement
+pub steady-agree : {n : ℕ} {F : Fun → Fun} → Steady n F → (f g : Fun) → Good n f → Good n g → Agree n f g → Agree n (F f) (F g)
+steady-agree {n} {F} S f g A B h =
+    below-antisym true (S .good f A) (S .good g B) (S .rises f g A B (agree-below true n f g h))
+    (S .rises g f B A (agree-below true n g f (λ x i. sym (h x i))))
 
 -- ---- the definitions, as one
 
@@ -105,22 +108,15 @@ module _ (d : Bool) {n : ℕ} {F : Fun → Fun} (S : Steady n F) where
       (fixed-below (F (fixed d n F)) good (steady-rises d S (F (fixed d n F)) (fixed d n F) good fixed-good down))
 
 -- ---- iterates
-unfoldable pub iterate : (Fun → Fun) → Fun → ℕ → Fun
-iterate F x zero = x
-iterate F x (suc k) = F (iterate F x k)
-
--- what the iterates may begin with, to rise to the fixed point
-pub record Rising (d : Bool) (n : ℕ) (F : Fun → Fun) (x : Fun) : Type 0 where
-  pub good : Good n x
-  pub first : Below d n x (F x)
-  pub low : Below d n x (fixed d n F)
+-- those of a monotone function are monotone
+iterates-good : {n : ℕ} {F : Fun → Fun} → Steady n F → (f : Fun) → Good n f → (k : ℕ) → Good n (iterate F f k)
+unfolding iterate
+iterates-good S f A zero = A
+iterates-good {n} {F} S f A (suc k) = S .good (iterate F f k) (iterates-good S f A k)
 
 module _ (d : Bool) {n : ℕ} {F : Fun → Fun} (S : Steady n F) {x : Fun} (R : Rising d n F x) where
-  -- they are monotone
   pub iterate-good : (k : ℕ) → Good n (iterate F x k)
-  unfolding iterate
-  iterate-good zero = R .good
-  iterate-good (suc k) = S .good (iterate F x k) (iterate-good k)
+  iterate-good = iterates-good S x (R .good)
 
   -- each is below the next
   pub iterate-rises : (k : ℕ) → Below d n (iterate F x k) (iterate F x (suc k))
@@ -145,6 +141,15 @@ module _ (d : Bool) {n : ℕ} {F : Fun → Fun} (S : Steady n F) {x : Fun} (R : 
       (fixed-below d S (iterate F x k) (iterate-good k) (agree-below d n _ _ (λ x i. sym (e x i))))
       (iterate-low k)
 
+-- from functions that agree they agree
+pub iterate-agree : {n : ℕ} {F : Fun → Fun} → Steady n F → {f g : Fun} → Good n f → Good n g → Agree n f g
+    → (k : ℕ) → Agree n (iterate F f k) (iterate F g k)
+unfolding iterate
+iterate-agree S {f} {g} A B h zero = h
+iterate-agree {n} {F} S {f} {g} A B h (suc k) =
+    let good : (f : Fun) → Good n f → Good n (iterate F f k) = λ f A. iterates-good S f A k in
+    steady-agree S (iterate F f k) (iterate F g k) (good f A) (good g B) (iterate-agree S A B h k)
+
 -- the approximants are the iterates of approximant 0
 pub approx-iterate : (d : Bool) (n : ℕ) (F : Fun → Fun) → iterate F (approximant d n F zero) ≡ approximant d n F
 unfolding iterate approximant
@@ -153,6 +158,17 @@ approx-iterate d n F = fun-ext go
     go : (k : ℕ) → iterate F (approximant d n F zero) k ≡ approximant d n F k
     go zero = refl
     go (suc k) = ap F (go k)
+
+-- what agrees with such a beginning is one
+pub rising-agree : (d : Bool) {n : ℕ} {F : Fun → Fun} → Steady n F → {f g : Fun} → Rising d n F f → Agree n g f → Rising d n F g
+rising-agree d {n} {F} S {f} {g} R h =
+    let good : Good n g = good-agree g h (R .good) in
+    let back : Agree n (F f) (F g) = steady-agree S f g (R .good) good (λ x i. sym (h x i)) in
+    record {
+      good = good;
+      first = below-trans d n g f (F g) (agree-below d n g f h) (below-trans d n f (F f) (F g) (R .first) (agree-below d n (F f) (F g) back));
+      low = below-trans d n g f (fixed d n F) (agree-below d n g f h) (R .low);
+    }
 
 -- which is below everything
 pub approx-rising : (d : Bool) {n : ℕ} {F : Fun → Fun} → Rising d n F (approximant d n F zero)

@@ -6,6 +6,7 @@ pub mod FixedPoints
 pub mod Weight
 pub mod Rounds
 pub mod Meanings
+pub mod Owning
 pub mod Unfolding
 pub mod Laws
 pub mod Invariance

@@ -9,12 +9,14 @@ use lib.Pow.{pow-pos}
 use lib.Bits.{bitOr, bitAnd}
 use Rattle.flc.specs.Sets.{both, either, has, setOf}
 use Rattle.flc.specs.Functions.{Fun}
-use Rattle.flc.specs.Formula.{Table, Atom, top, bottom, tau, prop, nprop, dia, box, Op, or, and, chop, Formula, atom, var, op, fix, meanAtom, Env, put, mean, none, free}
+use Rattle.flc.specs.Formula.{Table, Atom, top, bottom, tau, prop, nprop, dia, box, Op, or, and, chop, Formula, atom, var, op, fix}
+use Rattle.flc.specs.Formula.{meanAtom, Env, put, mean, none, free}
 use Rattle.flc.proofs.Tests.{Rises, both-rises, either-rises, forAll-rises, forSome-rises, both-mk, either-left, either-right, implies-use, implies-mk}
 use Rattle.flc.proofs.Masks.{setOf-lt, or-setOf, and-setOf}
 use Rattle.flc.proofs.Order.{below-flip, below-antisym, below-trans, agree-below, good-agree, setOf-sub}
 use Rattle.flc.specs.Order.{Below, Agree, Good, GoodEnv}
-use Rattle.flc.proofs.FixedPoints.{fixed, Steady, Rising, fixed-use, fixed-mk, fixed-good, fixed-below, fixed-fixed, fixed-rises}
+use Rattle.flc.specs.Iterates.{fixed, Rising}
+use Rattle.flc.proofs.FixedPoints.{Steady, fixed-use, fixed-mk, fixed-good, fixed-below, fixed-fixed, fixed-rises}
 
 -- ---- the binary operators and the binders, each as one
 

@@ -12,7 +12,8 @@ use Rattle.flc.proofs.Tests.{first-le, first-passes, first-least}
 use Rattle.flc.proofs.Order.{below-antisym, agree-use, agree-mk}
 use Rattle.flc.specs.Order.{Below, Agree}
 use Rattle.flc.proofs.Weight.{weight, weight-le, weight-max, weight-eq}
-use Rattle.flc.proofs.FixedPoints.{fixed, Steady, steady-rises, iterate, Rising, iterate-good, iterate-rises, iterate-fixed, approx-iterate, approx-rising}
+use Rattle.flc.specs.Iterates.{fixed, iterate, Rising}
+use Rattle.flc.proofs.FixedPoints.{Steady, steady-rises, iterate-good, iterate-rises, iterate-fixed, approx-iterate, approx-rising}
 
 -- ---- iterates that rise
 module _ (d : Bool) {n : ℕ} {F : Fun → Fun} (S : Steady n F) {x : Fun} (R : Rising d n F x) where

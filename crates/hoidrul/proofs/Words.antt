@@ -9,7 +9,7 @@ use native.Mathlib.Nat.{mul-le-mul}
 use lib.Dec.{leb, ltb, eqb}
 use lib.ListN.{length}
 use lib.Pow.{pow-mono}
-use Rattle.flc.specs.Functions.{agree, approximant, rounds}
+use Rattle.flc.specs.Functions.{Fun, agree, approximant, rounds}
 use Rattle.flc.specs.Formula.{Table, Formula, put, mean, none}
 use Rattle.flc.specs.Nodes.{Node, leaf, two, bind, lower, roundsOf, roundsAt}
 use Rattle.flc.specs.Bisimulation.{alike}
@@ -37,7 +37,8 @@ unfolding roundsOf rounds
 rounds-small L (leaf p) φ = omega arith
 rounds-small L (two o a b) φ = omega arith
 rounds-small L (bind d v b) φ =
-    let steady : ℕ → Bool = λ k. agree (L .n) (approximant d (L .n) (λ f. mean L (φ b) (put none v f)) k) (approximant d (L .n) (λ f. mean L (φ b) (put none v f)) (suc k)) in
+    let X : ℕ → Fun = approximant d (L .n) (λ f. mean L (φ b) (put none v f)) in
+    let steady : ℕ → Bool = λ k. agree (L .n) (X k) (X (suc k)) in
     omega (arith, first-le steady 0 (L .n * 2 ^ L .n))
 
 most : (n : ℕ) → n ≤ 16 → n * 2 ^ n ≤ 1048576
@@ -71,7 +72,8 @@ module _ (f : List ℕ) (bytes : (i : ℕ) → byteAt f i < 256) where
       let n : ℕ = length (c .labels) in
       let new : List ℕ = write (merge c (min s t) (max s t)) in
       counts (refusals standard f orElse row8 s n orElse row8 t n orElse row10 c s t orElse row13 new room) new
-      (later (later (later (later (refusals-placed standard f bytes) (ltb s n) 8) (ltb t n) 8) (not (eqb s t) && alike (table c) s t) 10) (leb (length new) room) 13)
+      (later (later (later (later (refusals-placed standard f bytes) (ltb s n) 8) (ltb t n) 8) (not (eqb s t) && alike (table c) s t) 10)
+      (leb (length new) room) 13)
 
   pub rewriting-fits : (law j room : ℕ) → Fits Any (counted (rewriting f law j room))
   unfolding rewriting

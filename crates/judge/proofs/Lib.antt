@@ -1,13 +1,1 @@
-pub mod Comparing
-pub mod Digits
-pub mod Modal
-pub mod Values
-pub mod Rightness
-pub mod Refreshing
-pub mod Approximating
-pub mod Settling
-pub mod Surveying
-pub mod Reached
-pub mod Depending
-pub mod Planning
 pub mod Answering

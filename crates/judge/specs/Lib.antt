@@ -1,3 +1,2 @@
-pub mod Tables
-pub mod Plans
+pub mod Asking
 pub mod EnumNumbers

@@ -2,26 +2,23 @@
 ghost use mathlib.Core.Path.{_≡_};
 ghost use lib.ListN.{length};
 ghost use Rattle.case_model.specs.Limits.{standard};
-ghost use Rattle.case_model.specs.Case.{read};
 ghost use Rattle.case_model.specs.Rows.{refusals, sound};
-ghost use Rattle.case_model.specs.Judging.{judging, cleared, verdict};
-ghost use Rattle.judge.specs.Plans.{decoded, Asked};
+ghost use Rattle.case_model.specs.Judging.{judging, cleared};
+ghost use Rattle.case_plan.specs.Plans.{decoded};
+ghost use Rattle.judge.specs.Asking.{Asked, planVerdict};
 ghost use Rattle.judge.specs.EnumNumbers.{judgedReply, answer};
-use crate::plan::EVERY;
-use crate::plan::Plan;
-use crate::plan::SIZE;
-use crate::plan::plan;
-use crate::refresh::ANEW;
-use crate::refresh::compute;
-use crate::refresh::refresh;
-use crate::tables::constant;
 use case_file::Case;
 use case_file::Reason;
 use case_file::Refusal;
 use case_file::Vetted;
+use case_plan::Plan;
+use case_plan::ROOT;
+use case_plan::SIZE;
+use case_plan::plan;
 use case_reader::node_count;
-use case_reader::root;
 use case_reader::state_count;
+use engine::run;
+use tables::constant;
 
 pub struct Verdict {
     pub set: u16,
@@ -33,18 +30,13 @@ pub enum Judged {
     Refused(Refusal),
 }
 
-// The root's function at the set, and its rounds: all nodes that the root reaches, with no variable active.
-fn answer(work: &mut [u16], file: &[u8], plan: &Plan, set: u16) -> Verdict
-    requires { ⌜ Asked (read (now file)) (decoded (now plan)) set (length (now work)) ⌝ }
-    ensures { λ r. ⌜ answer r ≡ verdict (read (now (file .entry))) set ⌝ }
+// The root's function at the set, and its rounds.
+fn answer(work: &mut [u16], plan: &Plan, set: u16) -> Verdict
+    requires { ⌜ Asked (decoded (now plan)) set (length (now work)) ⌝ }
+    ensures { λ r. ⌜ answer r ≡ planVerdict (decoded (now (plan .entry))) set ⌝ }
 {
-    let all = work.len();
-    let top = root(file);
-    let size = plan[SIZE];
-    constant(work, all, 0, 0);
-    refresh(work, file, plan, top, 0, EVERY, ANEW);
-    let rounds = compute(work, file, plan, top, EVERY, ANEW);
-    let at = top * size + set as usize;
+    let rounds = run(work, plan);
+    let at = plan[ROOT] * plan[SIZE] + set as usize;
     let value = work[at];
     Verdict { set: value, rounds }
 }
@@ -55,9 +47,8 @@ fn judge_accepted(file: &[u8], set: u16, work: &mut [u16]) -> Judged
     ensures { λ r. ⌜ judgedReply r ≡ judging (now (file .entry)) set (length (now (work .entry))) ⌝ }
     ensures { λ r. ⌜ now (work .exit) ≡ cleared (judging (now (file .entry)) set (length (now (work .entry)))) (now (work .entry)) ⌝ }
 {
-    let n = state_count(file);
     let m = node_count(file);
-    let size = 1usize << n;
+    let size = 1usize << state_count(file);
     let words = work.len();
     let x = set as usize;
     if size <= x {
@@ -72,8 +63,8 @@ fn judge_accepted(file: &[u8], set: u16, work: &mut [u16]) -> Judged
             place: 0,
         });
     }
-    let plan = plan(file, n, m);
-    let verdict = answer(&mut work[..m * size], file, &plan, set);
+    let plan = plan(file);
+    let verdict = answer(work, &plan, set);
     constant(work, words, 0, 0);
     Judged::Verdict(verdict)
 }

@@ -1,10 +1,5 @@
 // Judging: the root's function at a set, and its rounds, by tables of 2^n words in the lent work area. docs/SPECIFICATION.md, section 3.
 mod entry;
-mod nodes;
-mod plan;
-mod refresh;
-mod sets;
-mod tables;
 
 pub use entry::Judged;
 pub use entry::Verdict;

@@ -1,4 +1,5 @@
--- The print of case F (clause 9.5), from the drive that is proved of it; of F with an open root, by computation; and of any input that is too long.
+-- The print of case F (clause 9.5), from the drive that is proved of it; of F with an open root, by computation;
+-- and of any input that is too long, by its length alone.
 use Prim.Native.Nat.{ℕ, _*_, _<_}
 use mathlib.Core.List.{List, [], _∷_}
 use mathlib.Core.Path.{_≡_, refl, ap}
@@ -12,7 +13,7 @@ use Rattle.case_model.specs.Bytes.{listOf, chained, pairsHold, section}
 use Rattle.case_model.specs.Limits.{sections, standard}
 use Rattle.case_model.specs.Case.{nodeAt, rule}
 use Rattle.case_model.specs.Kinds.{kinds, kindAt}
-use Rattle.case_model.specs.Rows.{lowest, rootClosed, refusals}
+use Rattle.case_model.specs.Rows.{refused, lowest, rootClosed, refusals}
 use Rattle.case_model.specs.Replies.{answers}
 use Rattle.case_model.specs.Judging.{verdict, judging}
 use Rattle.drives.specs.Drives.{Right, drives}
@@ -47,12 +48,21 @@ pub print-F : page (caseF 9) 32768
 unfolding page printed lines numeral first has setOf section listOf
 print-F = ap (printed 2) judged
 
--- node 4, νZ.Y;Z;Y, leaves Y free: "refused 7 0"
-pub print-7 : page (caseF 4) 32768 ≡ 114 ∷ 101 ∷ 102 ∷ 117 ∷ 115 ∷ 101 ∷ 100 ∷ 32 ∷ 55 ∷ 32 ∷ 48 ∷ 10 ∷ []
-unfolding printed numeral first refusals pairsHold chained section listOf lowest forAll forSome both either rootClosed rule formulaAt lower nodeAt kindAt kinds free
-print-7 = refused-page (caseF 4) 32768 7 0 refl
+-- node 4, νZ.Y;Z;Y, leaves Y free
+open-root : refusals standard (caseF 4) ≡ refused 7 0
+unfolding first refusals pairsHold chained section listOf lowest forAll forSome both either rootClosed rule formulaAt lower nodeAt kindAt kinds free
+open-root = refl
 
--- clause 9.4
-pub print-longer : (f : List ℕ) (words : ℕ) → standard .longest < length f → page f words ≡ 114 ∷ 101 ∷ 102 ∷ 117 ∷ 115 ∷ 101 ∷ 100 ∷ 32 ∷ 49 ∷ 32 ∷ 48 ∷ 10 ∷ []
+-- so the print is "refused 7 0"
+pub print-7 : page (caseF 4) 32768 ≡ 114 ∷ 101 ∷ 102 ∷ 117 ∷ 115 ∷ 101 ∷ 100 ∷ 32 ∷ 55 ∷ 32 ∷ 48 ∷ 10 ∷ []
+unfolding printed numeral first
+print-7 = refused-page (caseF 4) 32768 7 0 open-root
+
+-- clause 9.4: "refused 1 0"
+pub print-longer : (f : List ℕ) (words : ℕ) → standard .longest < length f
+    → page f words ≡ 114 ∷ 101 ∷ 102 ∷ 117 ∷ 115 ∷ 101 ∷ 100 ∷ 32 ∷ 49 ∷ 32 ∷ 48 ∷ 10 ∷ []
 unfolding printed numeral first refusals pairsHold
-print-longer f words h = refused-page f words 1 0 (rw (le-leb (4 * sections) (length f) (omega arith), lt-leb (length f) (standard .longest) h))
+print-longer f words h =
+    let not-short = le-leb (4 * sections) (length f) (omega arith) in
+    let too-long = lt-leb (length f) (standard .longest) h in
+    refused-page f words 1 0 (rw (not-short, too-long))

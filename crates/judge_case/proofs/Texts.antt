@@ -59,7 +59,8 @@ pub shows : {p r : Page} {l : List ℕ} → Blank p → Grew p r l → r .length
 shows {p} {r} {l} z a h =
     let e = a .ends in
     let k : r .length ≡ length l = omega (arith, z .none) in
-    let w : r .bytes ≡ l ++ drop (length l) (p .bytes) = laid-whole (subst (λ b. Laid (p .bytes) (r .bytes) b (r .length) l) (z .none) a) (omega (arith, z .room)) in
+    let from-0 : Laid (p .bytes) (r .bytes) 0 (r .length) l = subst (λ b. Laid (p .bytes) (r .bytes) b (r .length) l) (z .none) a in
+    let w : r .bytes ≡ l ++ drop (length l) (p .bytes) = laid-whole from-0 (omega (arith, z .room)) in
     record {
       is = ap₂ take k w ∙ take-append-seam l (drop (length l) (p .bytes));
       fits = (omega (arith, a .long, z .room), sym (length-take-le (r .length) (r .bytes) (omega (arith, a .long, z .room))));
@@ -77,9 +78,11 @@ state-short s b = omega (arith, length-append (numeral s) (cond b yesText noText
     go false = omega arith
 
 -- one state more
-pub one-state : {p q r : Page} (s x : ℕ) {b : Bool} → b ≡ has x s → Grew p q (lines s x) → Grew q r (numeral s ++ cond b yesText noText) → Grew p r (lines (s + 1) x)
+pub one-state : {p q r : Page} (s x : ℕ) {b : Bool} → b ≡ has x s → Grew p q (lines s x)
+    → Grew q r (numeral s ++ cond b yesText noText) → Grew p r (lines (s + 1) x)
 unfolding lines
-one-state {p} {q} {r} s x e a h = rw (add-one s) (subst (λ b. Grew p r (lines s x ++ (numeral s ++ cond b yesText noText))) e (laid-after a h))
+one-state {p} {q} {r} s x e a h =
+    rw (add-one s) (subst (λ b. Grew p r (lines s x ++ (numeral s ++ cond b yesText noText))) e (laid-after a h))
 
 pub shows-as : {p : Page} {l m : List ℕ} → l ≡ m → Shows p l → Shows p m
 shows-as {p} e a = subst (Shows p) e a

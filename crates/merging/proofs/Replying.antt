@@ -1,51 +1,28 @@
--- What merging replies, by what vetting told and by the states given; and the answer once the new file is laid.
+-- What merging replies, by what vetting told and by the states given.
 -- By the rows of the table of refusals, in rising number.
 use mathlib.Core.Bool.{Bool, true, false, not, _&&_}
 use mathlib.Core.List.{List}
 use mathlib.Core.Path.{_≡_, refl, sym, _∙_}
 use Prim.Native.Nat.{ℕ, _≤_, _<_, min, max}
 use native.Mathlib.Omega.{arith}
-use borrow.Author.Tests.{le-leb, lt-leb, ltb-true}
+use borrow.Author.Tests.{ltb-true}
 use lib.Dec.{eqb, ltb}
 use lib.ListN.{length, getD}
 use Rattle.flc.specs.Sets.{has}
 use Rattle.flc.specs.Bisimulation.{alike}
-use Rattle.case_model.specs.Areas.{Laid}
 use Rattle.case_model.specs.Case.{read, table}
 use Rattle.case_model.specs.Rows.{Found, sound, refused, _orElse_, unless, refusals}
 use Rattle.case_model.specs.Limits.{mostStates, standard}
-use Rattle.case_model.specs.Replies.{answers, refuses, counted, written}
+use Rattle.case_model.specs.Replies.{refuses}
 use Rattle.case_model.specs.Merging.{merging}
-use Rattle.case_model.proofs.Laying.{laid-whole}
 use Rattle.case_model.proofs.Tests.{and-l, and-r}
 use Rattle.case_model.proofs.Valid.{accepted-valid}
 use Rattle.bisimilarity.specs.Graphs.{tableOf, Drawn}
 use Rattle.bisimilarity.specs.Relations.{related, Rows}
 use Rattle.bisimilarity.specs.declared.graph.Graph.{Graph}
 use Rattle.bisimilarity.proofs.Refining.{rows-alike}
-use Rattle.merging.specs.Merged.{mergedFile, fitting}
-use Rattle.merging.specs.declared.rows.Pair.{Pair}
-
--- ---- room or none
-module _ (f out : List ℕ) (p : Pair) (all : ℕ) (is : all ≡ length (mergedFile f p)) where
-  pub short : length out < all → fitting f p (length out) ≡ refuses 13 0
-  unfolding fitting
-  short h = rw (lt-leb (length (mergedFile f p)) (length out) (omega arith))
-
-  fits : all ≤ length out → fitting f p (length out) ≡ answers (mergedFile f p)
-  unfolding fitting
-  fits h = rw (le-leb (length (mergedFile f p)) (length out) (omega arith))
-
-  -- the count, and the output area
-  pub record Answered (v : List ℕ) : Type 0 where
-    pub count : answers all ≡ counted (fitting f p (length out))
-    pub area : v ≡ written (fitting f p (length out)) out
-
-  pub answered : {v : List ℕ} (end : ℕ) → all ≤ length out → Laid out v 0 end (mergedFile f p) → Answered v
-  answered end h l = record {
-    count = rw (fits h, is);
-    area = rw (fits h) (laid-whole l (omega (arith, l .ends)));
-  }
+use Rattle.merged_file.specs.Merged.{fitting}
+use Rattle.merged_steps.specs.declared.rows.Pair.{Pair}
 
 -- ---- refusals
 both-out : (a b : Bool) (r q : Found) → (a && b) ≡ false → unless a 8 0 orElse unless b 8 0 orElse r orElse q ≡ refused 8 0

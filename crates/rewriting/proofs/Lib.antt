@@ -1,4 +1,1 @@
-pub mod Laws
-pub mod Renewed
-pub mod NewFile
 pub mod Outcomes

@@ -3,23 +3,24 @@
 use Prim.Native.Nat.{ℕ, _+_, _≤_, _<_}
 use mathlib.Core.Bool.{true, false}
 use mathlib.Core.List.{List}
-use mathlib.Core.Path.{_≡_, sym, ap, _∙_}
+use mathlib.Core.Path.{_≡_, refl, sym, ap, _∙_}
 use native.Mathlib.Omega.{arith}
 use borrow.Author.Tests.{le-leb, lt-leb}
 use lib.ListN.{length}
 use Rattle.case_model.specs.Bytes.{byteAt}
-use Rattle.case_model.specs.Case.{read, write}
+use Rattle.case_model.specs.Case.{Case, read, write}
 use Rattle.case_model.specs.Rows.{sound, refused, refusals}
 use Rattle.case_model.specs.Limits.{mostNodes, standard}
 use Rattle.case_model.specs.Replies.{answers, refuses}
-use Rattle.case_model.specs.Rewriting.{swap, change, isThere, rewrite, rewriting}
+use Rattle.case_model.specs.Rewriting.{Change, nothing, swap, change, isThere, rewrite, rewriting}
+use Rattle.case_model.specs.Valid.{ValidRule}
+use Rattle.case_model.proofs.NineLaws.{Brings, the-fit, brings}
 use Rattle.case_model.proofs.Valid.{accepted-valid}
-use Rattle.rewriting.specs.Shapes.{placed, named, Does}
-use Rattle.rewriting.specs.Plans.{renewed, Planned}
-use Rattle.rewriting.specs.declared.shapes.Shape.{Shape}
-use Rattle.rewriting.specs.declared.plan.Plan.{Plan}
-use Rattle.rewriting.proofs.Laws.{no-node}
-use Rattle.rewriting.proofs.Renewed.{placed-nodes}
+use Rattle.law_shapes.specs.Shapes.{placed, named, Does}
+use Rattle.rewritten_file.specs.Plans.{renewed, Planned}
+use Rattle.law_shapes.specs.declared.shapes.Shape.{Shape}
+use Rattle.rewritten_file.specs.declared.plan.Plan.{Plan}
+use Rattle.rewritten_file.proofs.Renewed.{placed-nodes}
 
 -- an accepted file, whose case has m nodes
 pub record AcceptedCase (f : List ℕ) (m : ℕ) : Type 0 where
@@ -29,6 +30,14 @@ pub record AcceptedCase (f : List ℕ) (m : ℕ) : Type 0 where
 
 pub accepted-case : {f : List ℕ} {m : ℕ} → refusals standard f ≡ sound → m ≡ length (read f .nodes) → AcceptedCase f m
 accepted-case {f} s n = record { rows = s; nodes = n; few = omega (arith, accepted-valid standard f s .rule .most) }
+
+-- no law does anything at a node beyond the rule
+no-node : {c : Case} → ValidRule c → (law j : ℕ) → length (c .nodes) ≤ j → isThere (change (c .nodes) law j) ≡ false
+no-node {c} valid law j h = go (change (c .nodes) law j) (brings valid j law)
+  where
+    go : (e : Change) → Brings c j e → isThere e ≡ false
+    go nothing b = refl
+    go (swap l g) b = absurd (omega (arith, the-fit b .within))
 
 -- ---- rows 1 to 7, and 11
 pub rewriting-refused : (f : List ℕ) (law j room k p : ℕ) → refusals standard f ≡ refused k p → rewriting f law j room ≡ refuses k p

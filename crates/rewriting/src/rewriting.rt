@@ -5,21 +5,26 @@ ghost use Rattle.case_model.specs.Rows.{sound, refusals};
 ghost use Rattle.case_model.specs.Book.{rewrites};
 ghost use Rattle.case_model.specs.Run.{Promised};
 ghost use Rattle.case_file.specs.EnumNumbers.{writtenReply};
-use crate::plan::Plan;
-use crate::plan::new_size;
-use crate::plan::write_new;
-use crate::shapes::shape_at;
 use case_file::Case;
 use case_file::Reason;
 use case_file::Vetted;
 use case_file::Written;
 use case_file::refused;
 use case_reader::node_count;
+use law_shapes::shape_at;
+use rewritten_file::Plan;
+use rewritten_file::new_size;
+use rewritten_file::write_new;
 
 // Rewrites an accepted file.
 fn rewrite_accepted(file: &[u8], law: usize, node: usize, out: &mut [u8]) -> Written
     requires { ⌜ refusals standard (now file) ≡ sound ⌝ }
-    ensures { λ r. ⌜ Promised (now (file .entry)) (record { asked = rewrites law node; before = now (out .entry); after = now (out .exit); told = writtenReply r }) ⌝ }
+    ensures { λ r. ⌜ Promised (now (file .entry)) (record {
+      asked = rewrites law node;
+      before = now (out .entry);
+      after = now (out .exit);
+      told = writtenReply r;
+    }) ⌝ }
 {
     let m = node_count(file);
     if m <= node {
@@ -48,7 +53,12 @@ fn rewrite_accepted(file: &[u8], law: usize, node: usize, out: &mut [u8]) -> Wri
 
 // Rewrites node `node` by law `law`, and writes the new case.
 pub fn rewrite(file: &[u8], law: usize, node: usize, out: &mut [u8]) -> Written
-    ensures { λ r. ⌜ Promised (now (file .entry)) (record { asked = rewrites law node; before = now (out .entry); after = now (out .exit); told = writtenReply r }) ⌝ }
+    ensures { λ r. ⌜ Promised (now (file .entry)) (record {
+      asked = rewrites law node;
+      before = now (out .entry);
+      after = now (out .exit);
+      told = writtenReply r;
+    }) ⌝ }
 {
     let vetted = Case::new(file);
     let Vetted::Refused(refusal) = vetted else {

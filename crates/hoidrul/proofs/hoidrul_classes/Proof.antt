@@ -12,9 +12,11 @@ classes-requires c κs = search needs
 
 count-word-requires : tie.Need-count-word-requires
 count-word-requires c κs =
-    let s = c .before .before .before .before .before in
-    subst (Fits Any) (sym (c .before .before .classes .ensures .0))
-    (classing-fits (s .before .args .file .now) (λ i. omega (arith, s .shared-slice-known .given i)) _)
+    let at-classes = c .before .before in
+    let s = at-classes .before .before .before in
+    let start = s .before in
+    subst (Fits Any) (sym (at-classes .classes .ensures .0))
+    (classing-fits (start .args .file .now) (λ i. omega (arith, s .shared-slice-known .given i)) _)
 
 same-length : tie.Need-same-length
 same-length c = search needs

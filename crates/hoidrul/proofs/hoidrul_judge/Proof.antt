@@ -12,9 +12,11 @@ judge-requires c κs = search needs
 
 verdict-word-requires : tie.Need-verdict-word-requires
 verdict-word-requires c κs =
-    let s = c .before .before .before .before .before in
-    subst (Fits Brief) (sym (c .before .before .judge .ensures .0))
-    (judging-fits (s .before .args .file .now) (λ i. omega (arith, s .shared-slice-known .given i)) _ _)
+    let at-judge = c .before .before in
+    let s = at-judge .before .before .before in
+    let start = s .before in
+    subst (Fits Brief) (sym (at-judge .judge .ensures .0))
+    (judging-fits (start .args .file .now) (λ i. omega (arith, s .shared-slice-known .given i)) _ _)
 
 same-length : tie.Need-same-length
 same-length c = search needs

@@ -12,9 +12,11 @@ merge-requires c κs = search needs
 
 count-word-requires : tie.Need-count-word-requires
 count-word-requires c κs =
-    let s = c .before .before .before .before .before in
-    subst (Fits Any) (sym (c .before .before .merge .ensures .says))
-    (merging-fits (s .before .args .file .now) (λ i. omega (arith, s .shared-slice-known .given i)) _ _ _)
+    let at-merge = c .before .before in
+    let s = at-merge .before .before .before in
+    let start = s .before in
+    subst (Fits Any) (sym (at-merge .merge .ensures .says))
+    (merging-fits (start .args .file .now) (λ i. omega (arith, s .shared-slice-known .given i)) _ _ _)
 
 same-length : tie.Need-same-length
 same-length c = search needs

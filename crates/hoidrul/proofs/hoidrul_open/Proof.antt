@@ -16,9 +16,11 @@ enum-told-2 c = search needs
 
 returns : tie.Need-returns
 returns c =
-    let a = c .before .before .before .before .args in
+    let at-vet = c .before .before in
+    let start = at-vet .before .before in
+    let a = start .args in
     let told = c .enum-told2 .given in
-    let empty = refuses (a .file .now) (a .section) (told .0 .0) (told .1) (c .before .before .vet .ensures) in
+    let empty = refuses (a .file .now) (a .section) (told .0 .0) (told .1) (at-vet .vet .ensures) in
     rw (← empty .is, empty .at)
 
 section-offset-requires : tie.Need-section-offset-requires
@@ -36,8 +38,10 @@ add-result c = search needs
 returns-2 : tie.Need-returns-2
 returns-2 c =
     let v = c .before .before in
-    let a = v .before .before .before .before .args in
-    let o = opens (a .file .now) (a .section) (v .enum-told .given .0 .0) (v .enum-told .given .1) (v .before .before .vet .ensures) in
+    let at-vet = v .before .before in
+    let start = at-vet .before .before in
+    let a = start .args in
+    let o = opens (a .file .now) (a .section) (v .enum-told .given .0 .0) (v .enum-told .given .1) (at-vet .vet .ensures) in
     rw (o .at, o .long, there (o .number) _ (c .before .section-offset .ensures .is), there (o .number) _ (c .section-size .ensures .is))
 
 pub hoidrul-open-spec : {M : Type 1} → statement M

@@ -12,9 +12,11 @@ rewrite-requires c κs = search needs
 
 count-word-requires : tie.Need-count-word-requires
 count-word-requires c κs =
-    let s = c .before .before .before .before .before in
-    subst (Fits Any) (sym (c .before .before .rewrite .ensures .says))
-    (rewriting-fits (s .before .args .file .now) (λ i. omega (arith, s .shared-slice-known .given i)) _ _ _)
+    let at-rewrite = c .before .before in
+    let s = at-rewrite .before .before .before in
+    let start = s .before in
+    subst (Fits Any) (sym (at-rewrite .rewrite .ensures .says))
+    (rewriting-fits (start .args .file .now) (λ i. omega (arith, s .shared-slice-known .given i)) _ _ _)
 
 same-length : tie.Need-same-length
 same-length c = search needs

@@ -21,12 +21,18 @@ nodes-requires c κs = search needs
 mul-result : tie.Need-mul-result
 mul-result c =
     let v = c .before .before .before in
-    omega (arith, c .nodes .ensures, case-small (now (v .before .before .before .before .args .file)) (v .before .before .before .before .args .section) (v .vetted .given .0 .0) (v .vetted .given .1) (v .before .before .vet .ensures))
+    let at-vet = v .before .before in
+    let a = at-vet .before .before .args in
+    let small = case-small (now (a .file)) (a .section) (v .vetted .given .0 .0) (v .vetted .given .1) (at-vet .vet .ensures) in
+    omega (arith, c .nodes .ensures, small)
 
 add-result : tie.Need-add-result
 add-result c =
     let v = c .before .before .before in
-    omega (arith, c .nodes .ensures, c .before .states .ensures, case-small (now (v .before .before .before .before .args .file)) (v .before .before .before .before .args .section) (v .vetted .given .0 .0) (v .vetted .given .1) (v .before .before .vet .ensures))
+    let at-vet = v .before .before in
+    let a = at-vet .before .before .args in
+    let small = case-small (now (a .file)) (a .section) (v .vetted .given .0 .0) (v .vetted .given .1) (at-vet .vet .ensures) in
+    omega (arith, c .nodes .ensures, c .before .states .ensures, small)
 
 enum-known-vetted-2 : tie.Need-enum-known-vetted-2
 enum-known-vetted-2 c = search needs
@@ -35,7 +41,9 @@ refused-requires : tie.Need-refused-requires
 refused-requires c κs =
     let v = c .before in
     let s = v .before .before .before in
-    vetted-small (now (s .before .args .file)) (λ i. omega (arith, s .shared-slice-known .given i)) (s .before .args .section) (v .vetted2 .given .0 .0) (v .vetted2 .given .1) (v .before .before .vet .ensures)
+    let a = s .before .args in
+    vetted-small (now (a .file)) (λ i. omega (arith, s .shared-slice-known .given i)) (a .section) (v .vetted2 .given .0 .0) (v .vetted2 .given .1)
+    (v .before .before .vet .ensures)
 
 returns : tie.Need-returns
 returns c =

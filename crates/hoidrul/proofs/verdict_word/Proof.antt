@@ -15,12 +15,16 @@ cast-result c = search needs
 
 mul-result : tie.Need-mul-result
 mul-result c =
-    let h = subst (λ x. Fits Brief (judgedReply x)) (c .before .before .judged .given .1) (c .before .before .before .before .pre) in
+    let at-judged = c .before .before in
+    let start = at-judged .before .before in
+    let h = subst (λ x. Fits Brief (judgedReply x)) (at-judged .judged .given .1) (start .pre) in
     omega (arith, h)
 
 add-result : tie.Need-add-result
 add-result c =
-    let h = subst (λ x. Fits Brief (judgedReply x)) (c .before .before .judged .given .1) (c .before .before .before .before .pre) in
+    let at-judged = c .before .before in
+    let start = at-judged .before .before in
+    let h = subst (λ x. Fits Brief (judgedReply x)) (at-judged .judged .given .1) (start .pre) in
     omega (arith, h)
 
 enum-known-judged-2 : tie.Need-enum-known-judged-2

@@ -1,4 +1,4 @@
--- `judge_case::all_states` meets its contract: the shift loses no bit.
+-- `judge_case::all_states` meets its contract: for at most 16 states the shift loses no bit, and 2 ^ n - 1 is the set of all n.
 use borrow.Author.Needs.{needs}
 use native.Mathlib.Omega.{arith}
 use Prim.Native.Nat.{ℕ, _%_, _^_, _≤_}
@@ -20,7 +20,10 @@ sub-result : tie.Need-sub-result
 sub-result c = rw (one-mul, shifted _ (c .if1 .taken)) (pow-pos (c .before .args .n))
 
 cast-result : tie.Need-cast-result
-cast-result c = rw (one-mul, shifted _ (c .if1 .taken)) (record { fits = omega (arith, pow-mono {i = c .before .args .n} {j = 16} (c .if1 .taken), pow-pos (c .before .args .n)) })
+cast-result c =
+    let n = c .before .args .n in
+    let most = pow-mono {i = n} {j = 16} (c .if1 .taken) in
+    rw (one-mul, shifted _ (c .if1 .taken)) (record { fits = omega (arith, most, pow-pos n) })
 
 returns : tie.Need-returns
 returns c = λ few. rw (one-mul, shifted _ few) (all-states (c .before .args .n))

@@ -1,13 +1,33 @@
--- `judge_case::page_of` meets its contract: judging's reply on all states, and only an accepted case, with at most 16 states, is answered.
-use mathlib.Core.Path.{sym, ap, _∙_}
+-- `judge_case::page_of` meets its contract: what is printed is judging's reply on all states,
+-- and only an accepted case, which has at most 16 states, is answered.
+use mathlib.Core.Path.{_≡_, sym, ap, _∙_}
 use native.Mathlib.Omega.{arith}
+use lib.ListN.{length}
 use Rattle.judge.specs.EnumNumbers.{judgedReply}
-use Rattle.judge_case.specs.Printed.{printed}
+use Rattle.judge.specs.declared.entry.Judged.{Judged}
+use Rattle.judge_case.specs.Printed.{printed, page}
 use Rattle.judge_case.proofs.Texts.{shows-as}
 use Rattle.judge_case.proofs.Pages.{judged-few, judged-page}
 use borrow.Author.Needs.{needs}
 use Rattle.judge_case.proofs.page_of.Statement.{statement}
 use Rattle.judge_case.proofs.page_of.Tie as tie
+
+-- the places of the code, each from one after it
+abbrev judge-of : tie.After-slice-known2 → tie.After-judge
+judge-of c = c .before .before
+
+abbrev count-of : tie.After-judge → tie.After-state-count
+count-of c = c .before .before .before
+
+abbrev start-of : tie.After-judge → tie.Start
+start-of c = let at-count = count-of c in at-count .before .before .before
+
+-- what the match finds is judging's reply, and so its print is the file's
+found-page : (c : tie.After-judge) {found : Judged} → c .judge .result ≡ found
+    → let a = start-of c .args in printed (count-of c .state-count .result) (judgedReply found) ≡ page (a .file .now) (length (a .work .now))
+found-page c e =
+    let at-all = c .before .before in
+    judged-page _ _ _ _ (count-of c .state-count .ensures .is) (at-all .all-states .ensures) (sym (ap judgedReply e) ∙ c .judge .ensures .0)
 
 state-count-requires : tie.Need-state-count-requires
 state-count-requires c κs = search needs
@@ -23,7 +43,10 @@ enum-known-judged c = search needs
 
 verdict-page-requires : tie.Need-verdict-page-requires
 verdict-page-requires c κs =
-    omega (arith, c .before .before .before .before .before .before .before .before .state-count .ensures .is, judged-few _ _ _ (sym (ap judgedReply (c .before .judged .given .1)) ∙ c .before .before .before .before .before .judge .ensures .0))
+    let at-match = c .before .before in
+    let at-judge = judge-of (at-match .before) in
+    let reply = sym (ap judgedReply (c .before .judged .given .1)) ∙ at-judge .judge .ensures .0 in
+    omega (arith, count-of at-judge .state-count .ensures .is, judged-few _ _ _ reply)
 
 enum-known-judged-2 : tie.Need-enum-known-judged-2
 enum-known-judged-2 c = search needs
@@ -36,9 +59,9 @@ same-length c = search needs
 
 returns : tie.Need-returns
 returns c =
-    shows-as
-    (judged-page _ _ _ _ (c .before .before .before .before .before .before .before .before .before .state-count .ensures .is) (c .before .before .before .before .before .before .before .before .all-states .ensures) (sym (ap judgedReply (c .before .before .judged .given .1)) ∙ c .before .before .before .before .before .before .judge .ensures .0))
-    (c .verdict-page .ensures)
+    let at-found = c .before .before in
+    let at-match = at-found .before in
+    shows-as (found-page (judge-of (at-match .before)) (at-found .judged .given .1)) (c .verdict-page .ensures)
 
 same-length-2 : tie.Need-same-length-2
 same-length-2 c = search needs
@@ -46,9 +69,9 @@ same-length-2 c = search needs
 returns-2 : tie.Need-returns-2
 unfolding printed
 returns-2 c =
-    shows-as
-    (judged-page _ _ _ _ (c .before .before .before .before .before .before .before .before .before .state-count .ensures .is) (c .before .before .before .before .before .before .before .before .all-states .ensures) (sym (ap judgedReply (c .before .before .judged2 .given .1)) ∙ c .before .before .before .before .before .before .judge .ensures .0))
-    (c .refusal-page .ensures)
+    let at-found = c .before .before in
+    let at-match = at-found .before in
+    shows-as (found-page (judge-of (at-match .before)) (at-found .judged2 .given .1)) (c .refusal-page .ensures)
 
 pub page-of-spec : {M : Type 1} → statement M
 page-of-spec =

@@ -1,4 +1,6 @@
--- `judge_case::refusal_page` meets its contract: one line, number and place.
+-- `judge_case::refusal_page` meets its contract: a text, a number and a line with the place follow one another on a blank page,
+-- and a numeral has at most 20 digits, so that there is room for them.
+use Prim.Native.Nat.{_≤_}
 use native.Mathlib.Omega.{arith}
 use Rattle.judge_case.specs.Printed.{space, printed}
 use Rattle.case_model.proofs.Laying.{laid-after}
@@ -6,6 +8,18 @@ use Rattle.judge_case.proofs.Texts.{numeral-short, line-short, shows}
 use borrow.Author.Needs.{needs}
 use Rattle.judge_case.proofs.refusal_page.Statement.{statement}
 use Rattle.judge_case.proofs.refusal_page.Tie as tie
+
+-- the place after the blank page is made, from the one after its first text
+abbrev new-of : tie.After-text → tie.After-new
+new-of c = c .before .before
+
+-- "refused " and the number have at most 28 bytes
+number-short : (c : tie.After-number2) → c .number2 .result .length ≤ 28
+number-short c =
+    let at-text = c .before in
+    let at-new = new-of at-text in
+    let few = numeral-short (at-new .before .number .result) in
+    omega (arith, at-new .new .ensures .none, at-text .text .ensures .ends, c .number2 .ensures .ends, few)
 
 number-requires : tie.Need-number-requires
 number-requires c κs = search needs
@@ -26,17 +40,20 @@ slice-aggregate-line : tie.Need-slice-aggregate-line
 slice-aggregate-line c = search needs
 
 line-requires : tie.Need-line-requires
-line-requires c κs = omega (arith, c .before .number2 .ensures .ends, c .before .before .text .ensures .ends, c .before .before .before .before .new .ensures .none, numeral-short (c .before .before .before .before .before .number .result))
+line-requires c κs = omega (arith, number-short (c .before))
 
 returns : tie.Need-returns
 unfolding printed
 returns c =
-    let words = c .before .before .before .text .ensures in
-    let number = c .before .before .number2 .ensures in
-    let empty = c .before .before .before .before .before .new .ensures in
-    rw (← c .before .before .before .before .before .before .number .ensures)
-    (shows empty (laid-after words (laid-after number (c .line .ensures)))
-    (omega (arith, empty .none, words .ends, number .ends, c .line .ensures .ends, line-short space (c .before .before .before .before .before .before .before .args .refusal .place), numeral-short (c .before .before .before .before .before .before .number .result))))
+    let at-number = c .before .before in
+    let at-text = at-number .before in
+    let at-new = new-of at-text in
+    let at-reason = at-new .before in
+    let place = line-short space (at-reason .before .args .refusal .place) in
+    rw (← at-reason .number .ensures)
+    (shows (at-new .new .ensures)
+    (laid-after (at-text .text .ensures) (laid-after (at-number .number2 .ensures) (c .line .ensures)))
+    (omega (arith, number-short at-number, c .line .ensures .ends, place)))
 
 pub refusal-page-spec : {M : Type 1} → statement M
 refusal-page-spec =

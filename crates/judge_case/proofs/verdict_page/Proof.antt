@@ -16,6 +16,24 @@ Inv-loop states verdict page₀ s₀ page s =
 abbrev μ-loop : tie.MeasureT-loop
 μ-loop states verdict page₀ s₀ page s = states - s
 
+-- the places of the code, each from one after it
+abbrev first-of : tie.After-line2 Inv-loop μ-loop → tie.After-line Inv-loop μ-loop
+first-of c = c .before .before
+
+abbrev new-of : tie.After-line2 Inv-loop μ-loop → tie.After-new Inv-loop μ-loop
+new-of c = let at-first = first-of c in at-first .before .before
+
+abbrev start-of : tie.After-line2 Inv-loop μ-loop → tie.Start Inv-loop μ-loop
+start-of c = let at-new = new-of c in at-new .before
+
+-- the two counts are lines of at most 28 bytes
+counts-short : (c : tie.After-line2 Inv-loop μ-loop) → c .line2 .result .length ≤ 56
+counts-short c =
+    let a = start-of c .args in
+    let first = line-short states (a .states) in
+    let second = line-short rounds (a .verdict .rounds) in
+    omega (arith, new-of c .new .ensures .none, first-of c .line .ensures .ends, c .line2 .ensures .ends, first, second)
+
 new-requires : tie.Need-new-requires Inv-loop μ-loop
 new-requires c κs = search needs
 
@@ -29,7 +47,10 @@ slice-aggregate-line-2 : tie.Need-slice-aggregate-line-2 Inv-loop μ-loop
 slice-aggregate-line-2 c = search needs
 
 line-requires-2 : tie.Need-line-requires-2 Inv-loop μ-loop
-line-requires-2 c κs = omega (arith, c .before .line .ensures .ends, c .before .before .before .new .ensures .none, line-short states (c .before .before .before .before .args .states))
+line-requires-2 c κs =
+    let at-new = c .before .before .before in
+    let first = line-short states (at-new .before .args .states) in
+    omega (arith, at-new .new .ensures .none, c .before .line .ensures .ends, first)
 
 loop-holds : tie.Need-loop-holds Inv-loop μ-loop
 unfolding lines
@@ -40,10 +61,9 @@ holds-requires c κs = search needs
 
 state-requires : tie.Need-state-requires Inv-loop μ-loop
 state-requires c κs =
-    let start = c .before .before .before .before .before .before .before .before in
-    let first = c .before .before .before .before .before .line .ensures in
-    let second = c .before .before .before .line2 .ensures in
-    omega (arith, start .pre, c .before .before .before .before .before .before .before .new .ensures .none, first .ends, second .ends, line-short states (start .args .states), line-short rounds (start .args .verdict .rounds), c .before .before .loop .inv .1, c .before .loop-test .taken)
+    let at-loop = c .before .before in
+    let at-counts = at-loop .before in
+    omega (arith, start-of at-counts .pre, counts-short at-counts, at-loop .loop .inv .1, c .before .loop-test .taken)
 
 add-s : tie.Need-add-s Inv-loop μ-loop
 add-s c = search needs
@@ -53,22 +73,27 @@ loop-less c = search needs
 
 loop-again : tie.Need-loop-again Inv-loop μ-loop
 loop-again c =
-    let (shown, long, below) = c .before .before .before .loop .inv in
-    let v = c .before .before .before .before .before .before .before .before .before .args .verdict in
-    let s = c .before .before .before .loop .s in
-    (one-state s (v .set) (c .before .holds .ensures) shown (c .state .ensures), omega (arith, c .state .ensures .ends, state-short s (c .before .holds .result)), omega arith)
+    let at-loop = c .before .before .before in
+    let (shown, long, below) = at-loop .loop .inv in
+    let v = start-of (at-loop .before) .args .verdict in
+    let s = at-loop .loop .s in
+    let grown = c .state .ensures in (
+      one-state s (v .set) (c .before .holds .ensures) shown grown,
+      omega (arith, grown .ends, state-short s (c .before .holds .result)),
+      omega arith,
+    )
 
 returns : tie.Need-returns Inv-loop μ-loop
 unfolding printed
 returns c =
     let (shown, long, below) = c .before .loop .inv in
-    let start = c .before .before .before .before .before .before .before in
-    let empty = c .before .before .before .before .before .before .new .ensures in
-    let first = c .before .before .before .before .line .ensures in
-    let second = c .before .before .line2 .ensures in
-    let all : c .before .loop .s ≡ start .args .states = omega (arith, c .loop-test .left) in
-    shows empty (laid-after first (laid-after second (laid-as (ap (λ s. lines s (start .args .verdict .set)) all) shown)))
-    (omega (arith, start .pre, empty, first .ends, second .ends, line-short states (start .args .states), line-short rounds (start .args .verdict .rounds)))
+    let at-counts = c .before .before in
+    let a = start-of at-counts .args in
+    let all : c .before .loop .s ≡ a .states = omega (arith, c .loop-test .left) in
+    let told = laid-as (ap (λ s. lines s (a .verdict .set)) all) shown in
+    shows (new-of at-counts .new .ensures)
+    (laid-after (first-of at-counts .line .ensures) (laid-after (at-counts .line2 .ensures) told))
+    (omega (arith, start-of at-counts .pre, counts-short at-counts))
 
 pub verdict-page-spec : {M : Type 1} → statement M
 verdict-page-spec =

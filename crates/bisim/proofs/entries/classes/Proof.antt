@@ -17,8 +17,10 @@ enum-told c = search needs
 
 write-classes-requires : tie.Need-write-classes-requires
 write-classes-requires c κs =
+    let at-new = c .before .before .before in
+    let start = at-new .before .before .before in
     let v = c .before .enum-told .given in
-    accepts (c .before .before .before .before .before .before .args .file .now) (v .0 .0) (v .1) (c .before .before .before .new .ensures) .0
+    accepts (start .args .file .now) (v .0 .0) (v .1) (at-new .new .ensures) .0
 
 same-length : tie.Need-same-length
 same-length c = search needs
@@ -28,9 +30,11 @@ returns c = search needs
 
 returns-2 : tie.Need-returns-2
 returns-2 c =
-    let a = c .before .before .before .before .before .before .args in
+    let at-new = c .before .before .before in
+    let start = at-new .before .before .before in
+    let a = start .args in
     let v = c .before .vetted .given in
-    let e = classing-refused (a .file .now) (length (a .out .now)) _ _ (turned-back (a .file .now) (v .0 .0) (v .1) (c .before .before .before .new .ensures)) in
+    let e = classing-refused (a .file .now) (length (a .out .now)) _ _ (turned-back (a .file .now) (v .0 .0) (v .1) (at-new .new .ensures)) in
     (rw e, rw e)
 
 pub classes-spec : {M : Type 1} → statement M

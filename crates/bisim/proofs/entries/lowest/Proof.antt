@@ -29,7 +29,9 @@ member-requires c κs = search needs
 
 returns : tie.Need-returns Inv-loop μ-loop
 unfolding related
-returns c = sym (c .before .before .before .loop .inv .1 ∙ first-hit _ _ _ (c .before .before .loop-test .taken) (sym (c .before .member .ensures) ∙ c .if1 .taken))
+returns c =
+    let in-loop = c .before .before in
+    sym (in-loop .before .loop .inv .1 ∙ first-hit _ _ _ (in-loop .loop-test .taken) (sym (c .before .member .ensures) ∙ c .if1 .taken))
 
 add-t : tie.Need-add-t Inv-loop μ-loop
 add-t c = search needs
@@ -38,7 +40,9 @@ loop-less : tie.Need-loop-less Inv-loop μ-loop
 loop-less c = omega arith
 
 loop-again : tie.Need-loop-again Inv-loop μ-loop
-loop-again c = (omega arith, c .before .before .before .loop .inv .1 ∙ first-miss _ _ _ (c .before .before .loop-test .taken) (sym (c .before .member .ensures) ∙ c .if1 .left))
+loop-again c =
+    let in-loop = c .before .before in
+    (omega arith, in-loop .before .loop .inv .1 ∙ first-miss _ _ _ (in-loop .loop-test .taken) (sym (c .before .member .ensures) ∙ c .if1 .left))
 
 returns-2 : tie.Need-returns-2 Inv-loop μ-loop
 unfolding related

@@ -26,8 +26,10 @@ lowest-requires c κs = search needs
 
 cast-out : tie.Need-cast-out Inv-loop μ-loop
 cast-out c =
-    let s = c .before .before .loop .s in
-    omega (arith, c .lowest .ensures, first-le (related (c .before .before .before .before .args .rows) s) 0 s, c .before .before .before .before .pre .0)
+    let at-loop = c .before .before in
+    let start = at-loop .before .before in
+    let s = at-loop .loop .s in
+    omega (arith, c .lowest .ensures, first-le (related (start .args .rows) s) 0 s, start .pre .0)
 
 slice-write-out : tie.Need-slice-write-out Inv-loop μ-loop
 slice-write-out c = search needs
@@ -40,9 +42,11 @@ loop-less c = omega arith
 
 loop-again : tie.Need-loop-again Inv-loop μ-loop
 loop-again c =
-    let rows = c .before .before .before .before .args .rows in
-    let s = c .before .before .loop .s in
-    (omega arith, laid-element (λ u. first (related rows u) 0 u) s (c .before .before .loop .inv .1) (c .lowest .ensures))
+    let at-loop = c .before .before in
+    let start = at-loop .before .before in
+    let rows = start .args .rows in
+    let s = at-loop .loop .s in
+    (omega arith, laid-element (λ u. first (related rows u) 0 u) s (at-loop .loop .inv .1) (c .lowest .ensures))
 
 same-length : tie.Need-same-length Inv-loop μ-loop
 same-length c = c .before .loop .inv .1 .long

@@ -16,16 +16,22 @@ served-requires : tie.Need-served-requires
 served-requires c κs = search needs
 
 draw-requires : tie.Need-draw-requires
-draw-requires c κs = accepted-valid standard _ (c .before .before .before .before .pre) .table
+draw-requires c κs =
+    let c3 = c .before .before .before in
+    let start = c3 .before in
+    accepted-valid standard _ (start .pre) .table
 
 alike-rows-requires : tie.Need-alike-rows-requires
 alike-rows-requires c κs = search needs
 
 write-requires : tie.Need-write-requires
 write-requires c κs =
-    let n = c .before .before .before .before .state-count in
-    let w = served-within (n .result) (length (c .before .before .before .before .before .before .before .args .out .now)) (c .before .before .before .served .ensures) in
-    (omega (arith, w .0, n .ensures .is, accepted-valid standard _ (c .before .before .before .before .before .before .before .pre) .table .few), w .1)
+    let at-served = c .before .before .before in
+    let at-state-count = at-served .before in
+    let start = at-state-count .before .before .before in
+    let n = at-state-count .state-count in
+    let w = served-within (n .result) (length (start .args .out .now)) (at-served .served .ensures) in
+    (omega (arith, w .0, n .ensures .is, accepted-valid standard _ (start .pre) .table .few), w .1)
 
 refused-requires : tie.Need-refused-requires
 refused-requires c κs = search needs
@@ -35,7 +41,15 @@ same-length c = search needs
 
 returns : tie.Need-returns
 returns c =
-    let (count, area) = classing-short _ _ (c .before .before .before .before .before .before .before .before .before .before .before .before .pre) (c .before .before .before .before .before .before .before .draw .ensures) (c .before .before .before .before .before .before .alike-rows .ensures) (c .before .before .before .before .before .before .before .before .before .state-count .ensures .is) (c .before .before .before .before .before .before .before .before .served .ensures) (c .before .before .before .before .write .ensures) (c .before .if1 .taken) in
+    let at-if1 = c .before in
+    let at-write = at-if1 .before .before .before in
+    let at-alike-rows = at-write .before .before in
+    let at-draw = at-alike-rows .before in
+    let at-served = at-draw .before in
+    let at-state-count = at-served .before in
+    let start = at-state-count .before .before .before in
+    let (count, area) = classing-short _ _ (start .pre) (at-draw .draw .ensures) (at-alike-rows .alike-rows .ensures)
+    (at-state-count .state-count .ensures .is) (at-served .served .ensures) (at-write .write .ensures) (at-if1 .if1 .taken) in
     (c .refused .ensures ∙ count, area)
 
 same-length-2 : tie.Need-same-length-2
@@ -43,7 +57,14 @@ same-length-2 c = search needs
 
 returns-2 : tie.Need-returns-2
 returns-2 c =
-    classing-whole _ _ (c .before .before .before .before .before .before .before .before .before .before .before .pre) (c .before .before .before .before .before .before .draw .ensures) (c .before .before .before .before .before .alike-rows .ensures) (c .before .before .before .before .before .before .before .before .state-count .ensures .is) (c .before .before .before .before .before .before .before .served .ensures) (c .before .before .before .write .ensures) (c .if1 .left)
+    let at-write = c .before .before .before in
+    let at-alike-rows = at-write .before .before in
+    let at-draw = at-alike-rows .before in
+    let at-served = at-draw .before in
+    let at-state-count = at-served .before in
+    let start = at-state-count .before .before .before in
+    classing-whole _ _ (start .pre) (at-draw .draw .ensures) (at-alike-rows .alike-rows .ensures)
+    (at-state-count .state-count .ensures .is) (at-served .served .ensures) (at-write .write .ensures) (c .if1 .left)
 
 pub write-classes-spec : {M : Type 1} → statement M
 write-classes-spec =

@@ -14,7 +14,10 @@ step-rows-requires : tie.Need-step-rows-requires
 step-rows-requires c κs = search needs
 
 returns : tie.Need-returns
-returns c = drawn (c .before .before .before .before .pre) _ (c .before .before .state-count .ensures .is) (c .before .labels .ensures) (c .step-rows .ensures)
+returns c =
+    let at-state-count = c .before .before in
+    let start = at-state-count .before .before in
+    drawn (start .pre) _ (at-state-count .state-count .ensures .is) (c .before .labels .ensures) (c .step-rows .ensures)
 
 pub draw-spec : {M : Type 1} → statement M
 draw-spec = tie.close (tie.spec state-count-requires labels-requires step-rows-requires returns)

@@ -38,7 +38,9 @@ loop-again : tie.Need-loop-again Inv-loop μ-loop
 loop-again c = (omega arith, front-more (c .before .before .loop .inv .1) (c .before .loop-test .taken) (c .label .ensures .is))
 
 returns : tie.Need-returns Inv-loop μ-loop
-returns c = labels-filled (read (c .before .before .before .args .file .now) .labels) (c .before .loop .inv .1) (c .loop-test .left) (c .before .before .before .pre .few)
+returns c =
+    let start = c .before .before .before in
+    labels-filled (read (start .args .file .now) .labels) (c .before .loop .inv .1) (c .loop-test .left) (start .pre .few)
 
 pub labels-spec : {M : Type 1} → statement M
 labels-spec =

@@ -34,7 +34,10 @@ element-copy-out-extended : tie.Need-element-copy-out-extended Inv-loop μ-loop
 element-copy-out-extended c = search needs
 
 extended-requires : tie.Need-extended-requires Inv-loop μ-loop
-extended-requires c κs = (set-small _ _ (c .before .before .loop .inv .1), omega (arith, c .before .before .before .before .pre .0 .few))
+extended-requires c κs =
+    let at-loop = c .before .before in
+    let start = at-loop .before .before in
+    (set-small _ _ (at-loop .loop .inv .1), omega (arith, start .pre .0 .few))
 
 add-t : tie.Need-add-t Inv-loop μ-loop
 add-t c = search needs

@@ -50,9 +50,11 @@ loop-again c = (omega arith, all-more _ _ (c .before .before .loop .inv .1) (rw 
 
 returns : tie.Need-returns Inv-loop μ-loop
 returns c =
-    let a = c .before .before .before .before .args in
+    let at-after = c .before .before .before in
+    let start = at-after .before in
+    let a = start .args in
     let e : c .before .loop .u ≡ a .graph .states = omega arith in
-    c .before .loop .inv .1 ∙ rw e (met-masks (a .graph) (a .t2) (a .s) (a .t) (a .a) _ _ (c .before .before .before .after .ensures) (c .before .before .after2 .ensures))
+    c .before .loop .inv .1 ∙ rw e (met-masks (a .graph) (a .t2) (a .s) (a .t) (a .a) _ _ (at-after .after .ensures) (c .before .before .after2 .ensures))
 
 pub met-by-spec : {M : Type 1} → statement M
 met-by-spec =

@@ -10,10 +10,13 @@ use Rattle.case_file.proofs.entries.open.Statement.{statement}
 use Rattle.case_file.proofs.entries.open.Tie as tie
 
 -- what the answer tells, once it is known to be a case
-at-told : (c : tie.After-enum-told) → Opens (c .before .before .before .before .args .file .now) (c .before .before .before .before .args .section)
+at-told : (c : tie.After-enum-told) → let at-vet = c .before .before in let a = at-vet .before .before .args in
+    Opens (a .file .now) (a .section)
 at-told c =
-    let a = c .before .before .before .before .args in
-    opens (a .file .now) (a .section) (c .enum-told .given .0 .0) (c .enum-told .given .1) (c .before .before .vet .ensures)
+    let at-vet = c .before .before in
+    let start = at-vet .before .before in
+    let a = start .args in
+    opens (a .file .now) (a .section) (c .enum-told .given .0 .0) (c .enum-told .given .1) (at-vet .vet .ensures)
 
 vet-requires : tie.Need-vet-requires
 vet-requires c κs = search needs
@@ -25,13 +28,18 @@ enum-told-2 : tie.Need-enum-told-2
 enum-told-2 c = search needs
 
 slice-aggregate-result : tie.Need-slice-aggregate-result
-slice-aggregate-result c = sym (length-take-le _ (c .before .before .before .before .before .args .file .now) (omega arith))
+slice-aggregate-result c =
+    let c3 = c .before .before .before in
+    let start = c3 .before .before in
+    sym (length-take-le _ (start .args .file .now) (omega arith))
 
 returns : tie.Need-returns
 returns c =
-    let a = c .before .before .before .before .before .args in
+    let at-vet = c .before .before .before in
+    let start = at-vet .before .before in
+    let a = start .args in
     let told = c .before .enum-told2 .given in
-    let empty = refuses (a .file .now) (a .section) (told .0 .0) (told .1) (c .before .before .before .vet .ensures) in
+    let empty = refuses (a .file .now) (a .section) (told .0 .0) (told .1) (at-vet .vet .ensures) in
     record { bytes = empty .is; block = refl; place = rw (empty .at, add-zero) }
 
 section-offset-requires : tie.Need-section-offset-requires

@@ -23,8 +23,10 @@ reply-requires c κs = search needs
 returns : tie.Need-returns
 unfolding vetting
 returns c =
-    let f = c .before .before .before .before .before .args .file .now in
-    let rows = subst (λ most. Stage f (c .before .before .rows .result) (refusals most f)) (c .before .before .before .limits .ensures) (c .before .before .rows .ensures) in
+    let at-limits = c .before .before .before in
+    let start = at-limits .before .before in
+    let f = start .args .file .now in
+    let rows = subst (λ most. Stage f (c .before .before .rows .result) (refusals most f)) (at-limits .limits .ensures) (c .before .before .rows .ensures) in
     c .reply .ensures ∙ answered (went rows (c .before .section .ensures))
 
 pub vet-spec : {M : Type 1} → statement M

@@ -1,4 +1,4 @@
--- `case_reader::kinds::atom_fits` meets its contract, atom by atom.
+-- `case_reader::kinds::atom_fits` meets its contract, atom by atom: each test is that of the operand which `operandOf` gives the atom.
 use mathlib.Core.Path.{ap, sym}
 use Rattle.case_model.specs.Kinds.{fits}
 use Rattle.case_reader.specs.NodeKinds.{operandOf}

@@ -1,4 +1,4 @@
--- `case_reader::kinds::is_binder` meets its contract, by cases on the kind.
+-- `case_reader::kinds::is_binder` meets its contract, by cases on the kind: the table's line of a kind says whether its nodes bind.
 use Rattle.case_model.specs.Kinds.{isBinder}
 use borrow.Author.Needs.{needs}
 use Rattle.case_reader.specs.Read.{triple}

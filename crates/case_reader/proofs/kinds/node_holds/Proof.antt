@@ -1,4 +1,4 @@
--- `case_reader::kinds::node_holds` meets its contract: the kind is the table's line.
+-- `case_reader::kinds::node_holds` meets its contract: the kind that is found is the table's line, whose operands are tested.
 use mathlib.Core.Bool.{_&&_}
 use mathlib.Core.Path.{ap, _∙_}
 use borrow.Author.Needs.{needs}

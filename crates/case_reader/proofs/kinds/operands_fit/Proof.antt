@@ -1,4 +1,4 @@
--- `case_reader::kinds::operands_fit` meets its contract, by cases on the kind.
+-- `case_reader::kinds::operands_fit` meets its contract, by cases on the kind: each tests what the table's line of that kind asks.
 use Prim.Native.Nat.{ℕ}
 use mathlib.Core.Bool.{_&&_}
 use mathlib.Core.Path.{_≡_, ap, sym, _∙_}
@@ -32,9 +32,9 @@ enum-told-3 c = search needs
 
 returns : tie.Need-returns
 returns c =
-    let a = c .before .before .before .before .args in
-    ap (λ r. r && eqb (a .b) 0) (c .atom-fits .ensures (a .j))
-    ∙ fit-by (a .j) (a .a) (a .b) (c .before .before .kind .given .1)
+    let at-kind = c .before .before in
+    let a = at-kind .before .before .args in
+    ap (λ r. r && eqb (a .b) 0) (c .atom-fits .ensures (a .j)) ∙ fit-by (a .j) (a .a) (a .b) (at-kind .kind .given .1)
 
 returns-2 : tie.Need-returns-2
 returns-2 c =

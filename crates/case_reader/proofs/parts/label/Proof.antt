@@ -28,10 +28,12 @@ byte-requires c κs = search needs
 returns-2 : tie.Need-returns-2
 unfolding section
 returns-2 c =
-    let a = c .before .before .before .before .before .args in
+    let at-if = c .before .before in
+    let at-count = at-if .before in
+    let a = at-count .before .before .args in
     record {
       is = c .byte .ensures .is ∙ ap (λ o. byteAt (a .file .now) (o + a .s)) (c .before .word .ensures .is)
-          ∙ found _ _ 0 (a .s) (c .before .before .before .state-count .ensures .is) (c .before .before .if1 .left);
+          ∙ found _ _ 0 (a .s) (at-count .state-count .ensures .is) (at-if .if1 .left);
       small = c .byte .ensures .small;
     }
 

@@ -24,10 +24,11 @@ byte-requires c κs = search needs
 
 returns : tie.Need-returns
 returns c =
-    let f = c .before .before .before .before .args .file .now in
+    let at-word = c .before .before in
+    let f = at-word .before .before .args .file .now in
     record {
       is = c .byte .ensures .is
-          ∙ ap₂ (λ o m. byteAt f (o + 3 * m)) (c .before .before .word .ensures .is)
+          ∙ ap₂ (λ o m. byteAt f (o + 3 * m)) (at-word .word .ensures .is)
           (c .before .node-count .ensures .is ∙ length-listOf _ _);
       small = c .byte .ensures .small;
     }

@@ -50,15 +50,16 @@ byte-requires-3 c κs = search needs
 
 returns-2 : tie.Need-returns-2
 returns-2 c =
-    let at = c .before .before .before .before in
-    let a = at .before .before .before .args in
+    let at-word = c .before .before .before in
+    let at-if = at-word .before in
+    let a = at-if .before .before .before .args in
     let b1 = c .before .before .byte .ensures in
     let b2 = c .before .byte2 .ensures in
     let b3 = c .byte3 .ensures in
     record {
       is = (λ z. (b1 .is z, b2 .is z, b3 .is z))
-          ∙ ap (λ o. tripleAt (a .file .now) (o + 3 * a .i)) (c .before .before .before .word .ensures .is)
-          ∙ found _ _ (0, 0, 0) (a .i) (at .before .triple-count .ensures .is) (at .if1 .left);
+          ∙ ap (λ o. tripleAt (a .file .now) (o + 3 * a .i)) (at-word .word .ensures .is)
+          ∙ found _ _ (0, 0, 0) (a .i) (at-if .before .triple-count .ensures .is) (at-if .if1 .left);
       first = b1 .small;
       second = b2 .small;
       third = b3 .small;

@@ -1,4 +1,4 @@
--- `case_reader::reach::spread` meets its contract, by recursion over the nodes with the number falling.
+-- `case_reader::reach::spread` meets its contract, by recursion over the nodes with the number falling: each call is one node's turn.
 use mathlib.Core.Path.{ap, sym, _∙_}
 use Rattle.case_model.specs.Kinds.{nodeOf}
 use Rattle.case_model.specs.Case.{read, nodeAt}
@@ -25,82 +25,38 @@ spread-at t = and 1 spread-kinds.ps (is 1 spread-kinds.ps μ-spread t) spread.Pr
 abbrev spread-below : ℕ → In 1 spread-kinds.ps
 spread-below t = and 1 spread-kinds.ps (falls 1 spread-kinds.ps _<_ μ-spread t) spread.Pre
 
-spread-returns : (t : ℕ) → spread-lts.Need-returns (
-  node-reads.Asked,
-  node-reads.Learnt,
-  with-named-reads.Asked,
-  with-named-reads.Learnt,
-  spread-below t,
-  spread.Post,
-) (spread-at t) spread.Post
+abbrev spread-claims : ℕ → spread-lts.Claims
+spread-claims t = (node-reads.Asked, node-reads.Learnt, with-named-reads.Asked, with-named-reads.Learnt, spread-below t, spread.Post)
+
+spread-returns : (t : ℕ) → spread-lts.Need-returns (spread-claims t) (spread-at t) spread.Post
 unfolding sets.spread
 spread-returns t c = rw (c .if1 .taken)
 
-spread-sub-j : (t : ℕ) → spread-lts.Need-sub-j (
-  node-reads.Asked,
-  node-reads.Learnt,
-  with-named-reads.Asked,
-  with-named-reads.Learnt,
-  spread-below t,
-  spread.Post,
-) (spread-at t) spread.Post
+spread-sub-j : (t : ℕ) → spread-lts.Need-sub-j (spread-claims t) (spread-at t) spread.Post
 spread-sub-j t c = search needs
 
-spread-node-requires : (t : ℕ) → spread-lts.Need-node-requires (
-  node-reads.Asked,
-  node-reads.Learnt,
-  with-named-reads.Asked,
-  with-named-reads.Learnt,
-  spread-below t,
-  spread.Post,
-) (spread-at t) spread.Post
+spread-node-requires : (t : ℕ) → spread-lts.Need-node-requires (spread-claims t) (spread-at t) spread.Post
 spread-node-requires t c κs = search needs
 
-spread-with-named-requires : (t : ℕ) → spread-lts.Need-with-named-requires (
-  node-reads.Asked,
-  node-reads.Learnt,
-  with-named-reads.Asked,
-  with-named-reads.Learnt,
-  spread-below t,
-  spread.Post,
-) (spread-at t) spread.Post
+spread-with-named-requires : (t : ℕ) → spread-lts.Need-with-named-requires (spread-claims t) (spread-at t) spread.Post
 spread-with-named-requires t c κs = search needs
 
-spread-spread-requires : (t : ℕ) → spread-lts.Need-spread-requires (
-  node-reads.Asked,
-  node-reads.Learnt,
-  with-named-reads.Asked,
-  with-named-reads.Learnt,
-  spread-below t,
-  spread.Post,
-) (spread-at t) spread.Post
+spread-spread-requires : (t : ℕ) → spread-lts.Need-spread-requires (spread-claims t) (spread-at t) spread.Post
 spread-spread-requires t c κs = search needs
 
-spread-returns-2 : (t : ℕ) → spread-lts.Need-returns-2 (
-  node-reads.Asked,
-  node-reads.Learnt,
-  with-named-reads.Asked,
-  with-named-reads.Learnt,
-  spread-below t,
-  spread.Post,
-) (spread-at t) spread.Post
+spread-returns-2 : (t : ℕ) → spread-lts.Need-returns-2 (spread-claims t) (spread-at t) spread.Post
 unfolding sets.spread nodeAt
 spread-returns-2 t c =
-    let a = c .before .before .before .before .before .args in
+    let at-node = c .before .before in
+    let at-if = at-node .before in
+    let a = at-if .before .before .args in
     let N = nodeAt (read (a .file .now)) in
     let j = a .k - 1 in
-    c .spread .ensures ∙ ap (sets.spread N j) (c .before .with-named .ensures ∙ ap (λ x. sets.withNamed (a .set) (nodeOf x) j) (c .before .before .node .ensures .is))
-    ∙ sym (peel (λ k. sets.spread N k (a .set)) (a .k) (c .before .before .before .if1 .left))
+    let turn = c .before .with-named .ensures ∙ ap (λ x. sets.withNamed (a .set) (nodeOf x) j) (at-node .node .ensures .is) in
+    c .spread .ensures ∙ ap (sets.spread N j) turn ∙ sym (peel (λ k. sets.spread N k (a .set)) (a .k) (at-if .if1 .left))
 
 pub +spread-spec : {M : Type 1} → statement M
-+spread-spec = close μ-spread λ t. spread-lts.spec (
-  node-reads.Asked,
-  node-reads.Learnt,
-  with-named-reads.Asked,
-  with-named-reads.Learnt,
-  spread-below t,
-  spread.Post,
-)
++spread-spec = close μ-spread λ t. spread-lts.spec (spread-claims t)
     (spread-at t)
     spread.Post
     (spread-returns t)

@@ -1,4 +1,4 @@
--- `case_reader::steps::bit_of` meets its contract: the shift does not lose the bit.
+-- `case_reader::steps::bit_of` meets its contract: the shift, by less than 16, does not lose the bit.
 use Prim.Native.Nat.{_%_}
 use native.Mathlib.Nat.{one-mul, mod-eq-of-lt}
 use native.Mathlib.Omega.{arith}
@@ -14,7 +14,10 @@ shl-result : tie.Need-shl-result
 shl-result c = search needs
 
 returns : tie.Need-returns
-returns c = rw (c .if1 .taken, one-mul) (mod-eq-of-lt (pow-lt {i = c .before .before .before .before .before .args .x .2 % 16} {j = 16} (omega arith)))
+returns c =
+    let at-known = c .before .before .before in
+    let t = at-known .before .before .args .x .2 % 16 in
+    rw (c .if1 .taken, one-mul) (mod-eq-of-lt (pow-lt {i = t} {j = 16} (omega arith)))
 
 returns-2 : tie.Need-returns-2
 returns-2 c = rw (c .if1 .left)

@@ -1,4 +1,4 @@
--- `case_reader::steps::mark` meets its contract: one store.
+-- `case_reader::steps::mark` meets its contract: its one store, of the step's bit in the step's row, is the mark.
 use Rattle.case_reader.specs.Read.{triple}
 use Rattle.case_reader.proofs.Marking.{marked-by}
 use borrow.Author.Needs.{needs}

@@ -14,7 +14,10 @@ same-length : tie.Need-same-length
 same-length c = search needs
 
 returns : tie.Need-returns
-returns c = laid-after (c .before .before .before .before .before .before .put-word .ensures) (c .before .before .put-word2 .ensures)
+returns c =
+    let c3 = c .before .before .before in
+    let at-put-word = c3 .before .before .before in
+    laid-after (at-put-word .put-word .ensures) (c .before .before .put-word2 .ensures)
 
 pub put-pair-spec : {M : Type 1} → statement M
 put-pair-spec = tie.close (tie.spec put-word-requires put-word-requires-2 same-length returns)

@@ -32,7 +32,10 @@ put-pair-requires c κs =
 
 add-offset : tie.Need-add-offset Inv-loop μ-loop
 add-offset c =
-    let r = pairing-room (c .before .before .before .before .before .before .loop .inv) (c .before .before .before .before .before .loop-test .taken) in
+    let c3 = c .before .before .before in
+    let at-loop-test = c3 .before .before in
+    let at-loop = at-loop-test .before in
+    let r = pairing-room (at-loop .loop .inv) (at-loop-test .loop-test .taken) in
     omega arith
 
 add-i : tie.Need-add-i Inv-loop μ-loop
@@ -42,7 +45,11 @@ loop-less : tie.Need-loop-less Inv-loop μ-loop
 loop-less c = search needs
 
 loop-again : tie.Need-loop-again Inv-loop μ-loop
-loop-again c = pairing-turn (c .before .before .before .before .before .before .loop .inv) (c .before .before .before .before .before .loop-test .taken) (c .before .before .put-pair .ensures)
+loop-again c =
+    let at-put-pair = c .before .before in
+    let at-loop-test = at-put-pair .before .before .before in
+    let at-loop = at-loop-test .before in
+    pairing-turn (at-loop .loop .inv) (at-loop-test .loop-test .taken) (at-put-pair .put-pair .ensures)
 
 same-length : tie.Need-same-length Inv-loop μ-loop
 same-length c = c .before .loop .inv .laid .long

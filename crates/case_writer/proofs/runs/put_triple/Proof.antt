@@ -17,7 +17,12 @@ same-length : tie.Need-same-length
 same-length c = search needs
 
 returns : tie.Need-returns
-returns c = laid-after (laid-after (c .before .before .before .before .before .before .before .before .before .before .put-byte .ensures) (c .before .before .before .before .before .before .put-byte2 .ensures)) (c .before .before .put-byte3 .ensures)
+returns c =
+    let c3 = c .before .before .before in
+    let at-put-byte2 = c3 .before .before .before in
+    let c9 = at-put-byte2 .before .before .before in
+    let at-put-byte = c9 .before in
+    laid-after (laid-after (at-put-byte .put-byte .ensures) (at-put-byte2 .put-byte2 .ensures)) (c .before .before .put-byte3 .ensures)
 
 pub put-triple-spec : {M : Type 1} → statement M
 put-triple-spec =

@@ -28,9 +28,10 @@ returns c = search needs
 
 returns-2 : tie.Need-returns-2
 returns-2 c =
-    let a = c .before .before .before .before .before .before .args in
+    let at-new = c .before .before .before in
+    let a = at-new .before .before .before .args in
     let w = a .work .now in
-    let j = judging-refused (a .file .now) (a .set) (length w) (turned-back _ _ (c .before .vetted .given .1) (c .before .before .before .new .ensures)) in
+    let j = judging-refused (a .file .now) (a .set) (length w) (turned-back _ _ (c .before .vetted .given .1) (at-new .new .ensures)) in
     (sym j, subst (λ R. w ≡ cleared R w) (sym j) refl)
 
 pub judge-spec : {M : Type 1} → statement M

@@ -16,7 +16,10 @@ slice-aggregate-text : tie.Need-slice-aggregate-text
 slice-aggregate-text c = search needs
 
 text-requires-2 : tie.Need-text-requires-2
-text-requires-2 c κs = omega (arith, c .before .number .ensures .ends, c .before .before .text .ensures .ends, numeral-short (c .before .before .before .before .args .n))
+text-requires-2 c κs =
+    let at-text = c .before .before in
+    let few = numeral-short (at-text .before .before .args .n) in
+    omega (arith, at-text .text .ensures .ends, c .before .number .ensures .ends, few)
 
 returns : tie.Need-returns
 returns c = laid-after (c .before .before .before .text .ensures) (laid-after (c .before .before .number .ensures) (c .text2 .ensures))

@@ -1,4 +1,4 @@
--- `judge_case::Page::number` meets its contract: the digits are the numeral.
+-- `judge_case::Page::number` meets its contract: the digits are as few as hold a number of 64 bits, at most 20, and so are its numeral.
 use mathlib.Core.Path.{_∙_}
 use native.Mathlib.Omega.{arith}
 use Rattle.case_model.proofs.Laying.{laid-as}
@@ -18,12 +18,16 @@ slice-aggregate-text c = search needs
 
 text-requires : tie.Need-text-requires
 text-requires c κs =
-    omega (arith, c .before .decimal .ensures .0 .1, few-digits _ _ (c .before .before .before .good .1 .0 .1) (c .before .decimal .ensures .1 .0))
+    let at-decimal = c .before in
+    let small = at-decimal .before .before .good .1 .0 .1 in
+    omega (arith, at-decimal .decimal .ensures .0 .1, few-digits _ _ small (at-decimal .decimal .ensures .1 .0))
 
 returns : tie.Need-returns
 returns c =
-    let learnt = c .before .before .decimal .ensures in
-    laid-as (learnt .1 .1 ∙ fewest _ _ (few-digits _ _ (c .before .before .before .before .good .1 .0 .1) (learnt .1 .0)) (learnt .1 .0)) (c .text .ensures)
+    let at-decimal = c .before .before in
+    let small = at-decimal .before .before .good .1 .0 .1 in
+    let (least, written) = at-decimal .decimal .ensures .1 in
+    laid-as (written ∙ fewest _ _ (few-digits _ _ small least) least) (c .text .ensures)
 
 pub number-spec : {M : Type 1} → statement M
 number-spec =

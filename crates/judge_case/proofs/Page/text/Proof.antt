@@ -40,9 +40,10 @@ loop-less c = search needs
 
 loop-again : tie.Need-loop-again Inv-loop μ-loop
 loop-again c =
-    let a = c .before .before .before .before .args in
-    let (shown, long, _) = c .before .before .loop .inv in
-    let i = c .before .before .loop .i in
+    let at-loop = c .before .before in
+    let a = at-loop .before .before .args in
+    let (shown, long, _) = at-loop .loop .inv in
+    let i = at-loop .loop .i in
     let e : a .self .length + i + 1 ≡ a .self .length + (i + 1) = omega arith in
     (rw (← e) (laid-element (λ u. getD (a .what .now) u 0) i shown refl), search needs, omega arith)
 

@@ -17,8 +17,10 @@ enum-told c = search needs
 
 merge-states-requires : tie.Need-merge-states-requires
 merge-states-requires c κs =
+    let at-new = c .before .before .before in
+    let start = at-new .before .before .before in
     let v = c .before .enum-told .given in
-    accepts (c .before .before .before .before .before .before .args .file .now) (v .0 .0) (v .1) (c .before .before .before .new .ensures) .0
+    accepts (start .args .file .now) (v .0 .0) (v .1) (at-new .new .ensures) .0
 
 same-length : tie.Need-same-length
 same-length c = search needs
@@ -28,9 +30,11 @@ returns c = search needs
 
 returns-2 : tie.Need-returns-2
 returns-2 c =
-    let a = c .before .before .before .before .before .before .args in
+    let at-new = c .before .before .before in
+    let start = at-new .before .before .before in
+    let a = start .args in
     let v = c .before .vetted .given in
-    let found = turned-back (a .file .now) (v .0 .0) (v .1) (c .before .before .before .new .ensures) in
+    let found = turned-back (a .file .now) (v .0 .0) (v .1) (at-new .new .ensures) in
     let e = merging-refused (a .file .now) (a .s) (a .t) (length (a .out .now)) _ _ found in
     record { says = rw e; leaves = rw e }
 

@@ -18,22 +18,29 @@ refused-requires c κs = search needs
 
 returns : tie.Need-returns
 returns c =
-    let a = c .before .before .before .before .before .args in
+    let at-state-count = c .before .before in
+    let start = at-state-count .before .before .before in
+    let a = start .args in
     let e =
-    merging-beyond (a .file .now) (a .s) (a .t) (length (a .out .now)) _ (c .before .before .before .before .before .pre)
-    (c .before .before .state-count .ensures .is) (not-true _ (c .before .if1 .taken)) in
+    merging-beyond (a .file .now) (a .s) (a .t) (length (a .out .now)) _ (start .pre)
+    (at-state-count .state-count .ensures .is) (not-true _ (c .before .if1 .taken)) in
     record { says = rw (e, c .refused .ensures); leaves = rw e }
 
 -- both are states, of which there are at most 16
-at-inside : (c : tie.Else1) → let n = c .before .state-count .result in let a = c .before .before .before .before .args in
-    (a .s < n) × (a .t < n) × (n ≤ mostStates)
+at-inside : (c : tie.Else1) → let counted = c .before in let n = counted .state-count .result in
+    let a = counted .before .before .before .args in (a .s < n) × (a .t < n) × (n ≤ mostStates)
 at-inside c =
-    let a = c .before .before .before .before .args in
-    inside (a .file .now) (a .s) (a .t) (length (a .out .now)) _ (c .before .before .before .before .pre)
-    (c .before .state-count .ensures .is) (not-false _ (c .if1 .left))
+    let at-state-count = c .before in
+    let start = at-state-count .before .before .before in
+    let a = start .args in
+    inside (a .file .now) (a .s) (a .t) (length (a .out .now)) _ (start .pre)
+    (at-state-count .state-count .ensures .is) (not-false _ (c .if1 .left))
 
 draw-requires : tie.Need-draw-requires
-draw-requires c κs = accepted-valid standard _ (c .before .before .before .before .pre) .table
+draw-requires c κs =
+    let c3 = c .before .before .before in
+    let start = c3 .before in
+    accepted-valid standard _ (start .pre) .table
 
 alike-rows-requires : tie.Need-alike-rows-requires
 alike-rows-requires c κs = search needs
@@ -52,12 +59,16 @@ refused-requires-2 c κs = search needs
 
 returns-2 : tie.Need-returns-2
 returns-2 c =
-    let first = c .before .before .before .before .before in
-    let a = first .before .before .before .before .args in
+    let at-alike-rows = c .before .before .before in
+    let at-draw = at-alike-rows .before in
+    let first = at-draw .before in
+    let at-state-count = first .before in
+    let start = at-state-count .before .before .before in
+    let a = start .args in
     let e =
-    merging-unlike (a .file .now) (a .s) (a .t) (length (a .out .now)) _ (first .before .before .before .before .pre)
-    (first .before .state-count .ensures .is) (not-false _ (first .if1 .left))
-    (c .before .before .before .before .draw .ensures) (c .before .before .before .alike-rows .ensures)
+    merging-unlike (a .file .now) (a .s) (a .t) (length (a .out .now)) _ (start .pre)
+    (at-state-count .state-count .ensures .is) (not-false _ (first .if1 .left))
+    (at-draw .draw .ensures) (at-alike-rows .alike-rows .ensures)
     (c .before .before .member .ensures) (not-true _ (c .before .if2 .taken)) in
     record { says = rw (e, c .refused2 .ensures); leaves = rw e }
 
@@ -66,26 +77,36 @@ of-requires c κs = search needs
 
 merge-pair-requires : tie.Need-merge-pair-requires
 merge-pair-requires c κs =
-    let first = c .before .before .before .before .before .before in
+    let c3 = c .before .before .before in
+    let first = c3 .before .before .before in
+    let at-state-count = first .before in
+    let start = at-state-count .before .before .before in
     let (i, j, few) = at-inside first in
-    let states = first .before .state-count .ensures .is in
-    record { accepted = first .before .before .before .before .pre; states = states; kept = omega arith; removed = omega arith }
+    let states = at-state-count .state-count .ensures .is in
+    record { accepted = start .pre; states = states; kept = omega arith; removed = omega arith }
 
 same-length : tie.Need-same-length
 same-length c = search needs
 
 returns-3 : tie.Need-returns-3
 returns-3 c =
-    let second = c .before .before .before .before .before in
-    let first = second .before .before .before .before in
-    let a = first .before .before .before .before .args in
-    let p = c .before .before .before .before .of .ensures in
+    let at-merge-pair = c .before .before in
+    let at-of = at-merge-pair .before .before in
+    let second = at-of .before in
+    let at-member = second .before in
+    let at-alike-rows = at-member .before in
+    let at-draw = at-alike-rows .before in
+    let first = at-draw .before in
+    let at-state-count = first .before in
+    let start = at-state-count .before .before .before in
+    let a = start .args in
+    let p = at-of .of .ensures in
     let e =
-    merging-alike (a .file .now) (a .s) (a .t) (length (a .out .now)) _ (first .before .before .before .before .pre)
-    (first .before .state-count .ensures .is) (not-false _ (first .if1 .left))
-    (second .before .before .before .draw .ensures) (second .before .before .alike-rows .ensures)
-    (second .before .member .ensures) (not-false _ (second .if2 .left)) (p .0) (p .1) in
-    record { says = rw e (c .before .before .merge-pair .ensures .0); leaves = rw e (c .before .before .merge-pair .ensures .1) }
+    merging-alike (a .file .now) (a .s) (a .t) (length (a .out .now)) _ (start .pre)
+    (at-state-count .state-count .ensures .is) (not-false _ (first .if1 .left))
+    (at-draw .draw .ensures) (at-alike-rows .alike-rows .ensures)
+    (at-member .member .ensures) (not-false _ (second .if2 .left)) (p .0) (p .1) in
+    record { says = rw e (at-merge-pair .merge-pair .ensures .0); leaves = rw e (at-merge-pair .merge-pair .ensures .1) }
 
 pub merge-states-spec : {M : Type 1} → statement M
 merge-states-spec =

@@ -28,9 +28,11 @@ returns c = search needs
 
 returns-2 : tie.Need-returns-2
 returns-2 c =
-    let a = c .before .before .before .before .before .before .args in
+    let at-new = c .before .before .before in
+    let start = at-new .before .before .before in
+    let a = start .args in
     let v = c .before .vetted .given in
-    let found = turned-back (a .file .now) (v .0 .0) (v .1) (c .before .before .before .new .ensures) in
+    let found = turned-back (a .file .now) (v .0 .0) (v .1) (at-new .new .ensures) in
     let e = rewriting-refused (a .file .now) (a .law) (a .node) (length (a .out .now)) _ _ found in
     record { says = rw e; leaves = rw e }
 

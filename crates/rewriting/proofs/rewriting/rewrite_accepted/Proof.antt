@@ -8,7 +8,7 @@ use native.Mathlib.Omega.{arith}
 use lib.ListN.{length}
 use Rattle.case_model.specs.Replies.{answers}
 use Rattle.case_model.proofs.Laying.{laid-whole}
-use Rattle.rewriting.specs.Plans.{Planned}
+use Rattle.rewritten_file.specs.Plans.{Planned}
 use Rattle.rewriting.proofs.Outcomes.{AcceptedCase, accepted-case, planned}
 use Rattle.rewriting.proofs.Outcomes.{rewriting-beyond, rewriting-nowhere, rewriting-many, rewriting-short, rewriting-fits}
 use Rattle.rewriting.proofs.rewriting.rewrite_accepted.Statement.{statement}
@@ -19,17 +19,19 @@ at-nodes : (c : tie.After-node-count) → AcceptedCase (c .before .before .befor
 at-nodes c = accepted-case (c .before .before .before .pre) (c .node-count .ensures .is)
 
 -- the plan, once the shape is there and the nodes are few enough
-abbrev at-plan : (c : tie.Else3) → Planned (c .before .before .before .before .before .before .before .before .args .file .now) (record {
-  shape = c .before .before .before .shape-at .result;
-  j = c .before .before .before .before .before .before .before .before .args .node;
-  nodes = c .before .before .before .before .before .node-count .result + c .before .before .before .shape-at .result .added;
-})
+abbrev at-plan : (c : tie.Else3) → let at-shape-at = c .before .before .before in let counted = at-shape-at .before .before in
+    let a = counted .before .before .before .args in let shape = at-shape-at .shape-at .result in
+    Planned (a .file .now) (record { shape = shape; j = a .node; nodes = counted .node-count .result + shape .added })
 at-plan c =
-    let a = c .before .before .before .before .before .before .before .before .args in
-    let counted = c .before .before .before .before .before in
-    let known = counted .before .before .shared-slice-known .given in
-    planned (a .file .now) (a .law) (a .node) _ (at-nodes counted) (c .before .before .before .before .if1 .left) _
-    (c .before .before .before .shape-at .ensures) (not-false _ (c .before .if2 .left)) (λ i. omega (arith, known i)) (omega (arith, c .if3 .left))
+    let at-shape-at = c .before .before .before in
+    let at-if1 = at-shape-at .before in
+    let counted = at-if1 .before in
+    let at-shared-slice-known = counted .before .before in
+    let start = at-shared-slice-known .before in
+    let a = start .args in
+    let known = at-shared-slice-known .shared-slice-known .given in
+    planned (a .file .now) (a .law) (a .node) _ (at-nodes counted) (at-if1 .if1 .left) _
+    (at-shape-at .shape-at .ensures) (not-false _ (c .before .if2 .left)) (λ i. omega (arith, known i)) (omega (arith, c .if3 .left))
 
 node-count-requires : tie.Need-node-count-requires
 node-count-requires c κs = search needs
@@ -39,8 +41,10 @@ refused-requires c κs = search needs
 
 returns : tie.Need-returns
 returns c =
-    let a = c .before .before .before .before .before .args in
-    let e = rewriting-beyond (a .file .now) (a .law) (a .node) _ (at-nodes (c .before .before)) (c .before .if1 .taken) (length (a .out .now)) in
+    let c2 = c .before .before in
+    let start = c2 .before .before .before in
+    let a = start .args in
+    let e = rewriting-beyond (a .file .now) (a .law) (a .node) _ (at-nodes c2) (c .before .if1 .taken) (length (a .out .now)) in
     record { says = rw (e, c .refused .ensures); leaves = rw e }
 
 shape-at-requires : tie.Need-shape-at-requires
@@ -58,10 +62,14 @@ refused-requires-2 c κs = search needs
 
 returns-2 : tie.Need-returns-2
 returns-2 c =
-    let a = c .before .before .before .before .before .before .before .before .args in
-    let counted = at-nodes (c .before .before .before .before .before) in
-    let e = rewriting-nowhere (a .file .now) (a .law) (a .node) _ counted (c .before .before .before .before .if1 .left) _
-    (c .before .before .before .shape-at .ensures) (not-true _ (c .before .if2 .taken)) (length (a .out .now)) in
+    let at-shape-at = c .before .before .before in
+    let at-if1 = at-shape-at .before in
+    let c5 = at-if1 .before in
+    let start = c5 .before .before .before in
+    let a = start .args in
+    let counted = at-nodes c5 in
+    let e = rewriting-nowhere (a .file .now) (a .law) (a .node) _ counted (at-if1 .if1 .left) _
+    (at-shape-at .shape-at .ensures) (not-true _ (c .before .if2 .taken)) (length (a .out .now)) in
     record { says = rw (e, c .refused2 .ensures); leaves = rw e }
 
 refused-requires-3 : tie.Need-refused-requires-3
@@ -69,10 +77,15 @@ refused-requires-3 c κs = search needs
 
 returns-3 : tie.Need-returns-3
 returns-3 c =
-    let a = c .before .before .before .before .before .before .before .before .before .args in
-    let counted = at-nodes (c .before .before .before .before .before .before) in
-    let e = rewriting-many (a .file .now) (a .law) (a .node) _ counted (c .before .before .before .before .before .if1 .left) _
-    (c .before .before .before .before .shape-at .ensures) (not-false _ (c .before .before .if2 .left)) (c .before .if3 .taken) (length (a .out .now)) in
+    let at-if2 = c .before .before in
+    let at-shape-at = at-if2 .before .before in
+    let at-if1 = at-shape-at .before in
+    let c6 = at-if1 .before in
+    let start = c6 .before .before .before in
+    let a = start .args in
+    let counted = at-nodes c6 in
+    let e = rewriting-many (a .file .now) (a .law) (a .node) _ counted (at-if1 .if1 .left) _
+    (at-shape-at .shape-at .ensures) (not-false _ (at-if2 .if2 .left)) (c .before .if3 .taken) (length (a .out .now)) in
     record { says = rw (e, c .refused3 .ensures); leaves = rw e }
 
 new-size-requires : tie.Need-new-size-requires
@@ -83,9 +96,13 @@ refused-requires-4 c κs = search needs
 
 returns-4 : tie.Need-returns-4
 returns-4 c =
-    let a = c .before .before .before .before .before .before .before .before .before .before .before .args in
+    let c3 = c .before .before .before in
+    let c6 = c3 .before .before .before in
+    let c9 = c6 .before .before .before in
+    let start = c9 .before .before in
+    let a = start .args in
     let size = c .before .before .new-size .ensures in
-    let e = rewriting-short (at-plan (c .before .before .before)) (length (a .out .now)) (omega (arith, c .before .if4 .taken, size)) in
+    let e = rewriting-short (at-plan c3) (length (a .out .now)) (omega (arith, c .before .if4 .taken, size)) in
     record { says = rw (e, c .refused4 .ensures); leaves = rw e }
 
 write-new-requires : tie.Need-write-new-requires
@@ -96,11 +113,17 @@ same-length c = search needs
 
 returns-5 : tie.Need-returns-5
 returns-5 c =
-    let new = c .before .before .write-new .ensures in
-    let room = c .before .before .before .before in
-    let a = room .before .before .before .before .before .before .before .before .before .before .args in
-    let size = room .before .new-size .ensures in
-    let e = rewriting-fits (at-plan (room .before .before)) (length (a .out .now)) (omega (arith, room .if4 .left, size)) in
+    let at-write-new = c .before .before in
+    let room = at-write-new .before .before in
+    let at-new-size = room .before in
+    let c6 = at-new-size .before in
+    let c9 = c6 .before .before .before in
+    let c12 = c9 .before .before .before in
+    let start = c12 .before .before in
+    let new = at-write-new .write-new .ensures in
+    let a = start .args in
+    let size = at-new-size .new-size .ensures in
+    let e = rewriting-fits (at-plan c6) (length (a .out .now)) (omega (arith, room .if4 .left, size)) in
     record { says = rw e (ap answers (new .ends ∙ zero-add _)); leaves = rw e (laid-whole new (omega (arith, room .if4 .left, size, new .ends))) }
 
 pub rewrite-accepted-spec : {M : Type 1} → statement M

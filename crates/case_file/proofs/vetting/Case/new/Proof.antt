@@ -20,8 +20,10 @@ reply-requires c κs = search needs
 returns : tie.Need-returns
 unfolding accepting
 returns c =
-    let f = c .before .before .before .before .args .file .now in
-    c .reply .ensures ∙ answered (subst (λ most. Stage f (c .before .rows .result) (refusals most f)) (c .before .before .limits .ensures) (c .before .rows .ensures))
+    let at-limits = c .before .before in
+    let start = at-limits .before .before in
+    let f = start .args .file .now in
+    c .reply .ensures ∙ answered (subst (λ most. Stage f (c .before .rows .result) (refusals most f)) (at-limits .limits .ensures) (c .before .rows .ensures))
 
 pub new-spec : {M : Type 1} → statement M
 new-spec = tie.close (tie.spec limits-requires rows-requires reply-requires returns)

@@ -1,6 +1,6 @@
 -- `case_file::vetting::Vetting::rows` meets its contract: the tests stand in the order of the rows.
 use borrow.Author.Needs.{needs}
-use Rattle.case_file.specs.EnumNumbers.{limitsOf}
+use Rattle.case_tests.specs.RowTests.{limitsOf}
 use Rattle.case_model.specs.Rows.{refusals}
 use Rattle.case_file.proofs.Stages.{went, may-close}
 use Rattle.case_file.proofs.vetting.Vetting.rows.Statement.{statement}
@@ -31,10 +31,13 @@ closed-requires : tie.Need-closed-requires
 closed-requires c κs =
     let c2 = c .before .before in
     let c4 = c2 .before .before in
-    may-close (limitsOf (c4 .before .before .before .before .args .limits)) (c4 .before .before .before .before .args .file .now)
+    let at-pairs = c4 .before in
+    let at-begin = at-pairs .before in
+    let start = at-begin .before .before in
+    may-close (limitsOf (start .args .limits)) (start .args .file .now)
     (went
     (went
-    (went (went (went (went (c4 .before .before .begin .ensures) (c4 .before .pairs .ensures)) (c4 .labels .ensures)) (c2 .before .steps .ensures))
+    (went (went (went (went (at-begin .begin .ensures) (at-pairs .pairs .ensures)) (c4 .labels .ensures)) (c2 .before .steps .ensures))
     (c2 .rule .ensures))
     (c .before .kinds .ensures))
     (c .binders .ensures))

@@ -32,9 +32,11 @@ unless-requires-2 c κs = search needs
 returns-2 : tie.Need-returns-2
 unfolding lowest
 returns-2 c =
-    let count = c .before .before .before .before .step-count .ensures .is in
+    let at-first-wrong = c .before .before .before in
+    let at-step-count = at-first-wrong .before in
+    let count = at-step-count .step-count .ensures .is in
     went-twice (rw (c .before .before .section-size .ensures .is) at (c .before .unless .ensures))
-    (rw (c .before .before .before .first-wrong .ensures, count) at (c .unless2 .ensures))
+    (rw (at-first-wrong .first-wrong .ensures, count) at (c .unless2 .ensures))
 
 pub steps-spec : {M : Type 1} → statement M
 steps-spec =

@@ -13,7 +13,9 @@ earlier-requires : tie.Need-earlier-requires
 earlier-requires c κs = search needs
 
 returns : tie.Need-returns
-returns c = record { finds = c .earlier .ensures ∙ ap (λ x. found (c .before .before .before .args .self .finding) orElse x) (c .before .tested .ensures); has = refl }
+returns c =
+    let start = c .before .before .before in
+    record { finds = c .earlier .ensures ∙ ap (λ x. found (start .args .self .finding) orElse x) (c .before .tested .ensures); has = refl }
 
 pub unless-spec : {M : Type 1} → statement M
 unless-spec = tie.close (tie.spec tested-requires earlier-requires returns)

@@ -1,0 +1,5 @@
+pub mod Scopes
+pub mod Housing
+pub mod Labelling
+pub mod Drawing
+pub mod Assembling

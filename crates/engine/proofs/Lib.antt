@@ -1,0 +1,10 @@
+pub mod Frames
+pub mod Plain
+pub mod Depending
+pub mod Staying
+pub mod Refreshing
+pub mod Turns
+pub mod Iterating
+pub mod Settling
+pub mod Owned
+pub mod Rooting

@@ -1,0 +1,2 @@
+pub mod MergedBytes
+pub mod Room

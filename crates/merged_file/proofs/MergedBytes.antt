@@ -1,0 +1,169 @@
+-- The sections of the merged case are parts of the file and the steps of the rows, and the lengths add up to that of the new file.
+-- Labels are a front and a back of the label section; the rule section is copied whole.
+use mathlib.Core.Bool.{true}
+use mathlib.Core.List.{List, [], _∷_, _++_}
+use mathlib.Core.Path.{_≡_, refl, sym, ap, ap₂, _∙_}
+use Prim.Native.Nat.{ℕ, zero, suc, _+_, _*_, _-_, _/_, _%_, _≤_, _<_}
+use native.Mathlib.Nat.{not-suc-le-zero, le-of-suc-le-suc}
+use native.Mathlib.Omega.{arith}
+use borrow.Author.Tests.{eqb-true}
+use lib.ListN.{length, take, drop, length-append, length-drop}
+use lib.Seq.{length-take-le}
+use Rattle.case_model.specs.Areas.{Laid}
+use Rattle.case_model.specs.Limits.{sections, standard}
+use Rattle.case_model.specs.Bytes.{listOf, byteAt, offset, size, chained, pairsHold, section, pairs}
+use Rattle.case_model.specs.Case.{Case, read, flat, write}
+use Rattle.case_model.specs.Rows.{sound, refusals}
+use Rattle.case_model.specs.Merging.{movedSteps, inOrder, merge}
+use Rattle.case_model.proofs.Lists.{length-listOf, listOf-ext}
+use Rattle.case_model.proofs.Tests.{and-l, and-r}
+use Rattle.case_model.proofs.Sections.{within, left-sound, right-sound, unless-sound}
+use Rattle.case_model.proofs.Valid.{accepted-pairs, accepted-valid}
+use Rattle.case_model.specs.Valid.{Valid}
+use Rattle.case_model.proofs.Codec.{length-flat, length-write}
+use Rattle.case_model.proofs.Laying.{laid-after, laid-as}
+use Rattle.case_reader.specs.StepRows.{relation, StepRows}
+use Rattle.case_writer.specs.Parts.{part}
+use Rattle.case_writer.proofs.Parts.{part-more, part-triples}
+use Rattle.case_writer.proofs.Packing.{ended, next, laid-packed}
+use Rattle.merged_file.specs.Merged.{total, Named, Measured, mergedFile}
+use Rattle.merged_file.specs.declared.writing.Sizes.{Sizes}
+use Rattle.merged_steps.specs.declared.rows.Pair.{Pair}
+use Rattle.merged_steps.proofs.Relations.{rows-order, carried-all, order-few}
+
+-- ---- a front and a back of a list of values
+take-listOf : (r n : ℕ) (h : ℕ → ℕ) → r ≤ n → take r (listOf n h) ≡ listOf r h
+unfolding listOf
+take-listOf zero n h l = refl
+take-listOf (suc r) zero h l = absurd (not-suc-le-zero l)
+take-listOf (suc r) (suc n) h l = ap (λ k. h zero ∷ k) (take-listOf r n (λ i. h (suc i)) (le-of-suc-le-suc l))
+
+drop-listOf : (r n : ℕ) (g h : ℕ → ℕ) → ((i : ℕ) → h (r + i) ≡ g i) → drop r (listOf n h) ≡ listOf (n - r) g
+unfolding listOf
+drop-listOf zero n g h e =
+    let z : n - 0 ≡ n = omega arith in
+    rw z (listOf-ext n h g (λ i _. let q : 0 + i ≡ i = omega arith in rw q at (e i)))
+drop-listOf (suc r) zero g h e = let z : 0 - suc r ≡ 0 = omega arith in rw z
+drop-listOf (suc r) (suc n) g h e =
+    let z : suc n - suc r ≡ n - r = omega arith in
+    rw z (drop-listOf r n g (λ i. h (suc i)) (λ i. let q : suc (r + i) ≡ suc r + i = omega arith in rw q (e i)))
+
+-- ---- an accepted file
+ruleset rows = (left-sound, right-sound, unless-sound, and-l, and-r)
+
+rule-length : (f : List ℕ) → refusals standard f ≡ sound → size f 2 % 3 ≡ 1
+unfolding refusals
+rule-length f e = eqb-true _ _ (search rows depth 10)
+
+rule-after : (f : List ℕ) → pairsHold standard f ≡ true → offset f 0 + size f 0 ≤ offset f 2
+unfolding pairsHold chained
+rule-after f e =
+    let a : offset f 0 ≡ 4 * sections = eqb-true _ _ (search (and-l, and-r)) in
+    let b : offset f 2 ≡ 4 * sections + size f 0 + size f 1 = eqb-true _ _ (search (and-l, and-r)) in
+    omega arith
+
+labels-length : (f : List ℕ) → length (read f .labels) ≡ size f 0
+unfolding section
+labels-length f = length-listOf (size f 0) (λ i. byteAt f (offset f 0 + i))
+
+nodes-length : (f : List ℕ) → length (read f .nodes) ≡ size f 2 / 3
+nodes-length f = length-listOf (size f 2 / 3) _
+
+module _ (f : List ℕ) (r : ℕ) (inside : r ≤ length (read f .labels)) where
+  labels-are : part f (offset f 0) r ++ part f (offset f 0 + r + 1) (length (read f .labels) - suc r)
+      ≡ take r (read f .labels) ++ drop (suc r) (read f .labels)
+  unfolding part section
+  labels-are =
+      let n : length (read f .labels) ≡ size f 0 = labels-length f in
+      let m : length (read f .labels) - suc r ≡ size f 0 - suc r = omega arith in
+      let above : ℕ → ℕ = λ i. byteAt f (offset f 0 + r + 1 + i) in
+      sym (ap₂ _++_ (take-listOf r (size f 0) _ (omega arith))
+      (drop-listOf (suc r) (size f 0) above _ (λ i. ap (byteAt f) (place (offset f 0) i)) ∙ ap (λ k. listOf k above) (sym m)))
+    where
+      place : (o i : ℕ) → o + (suc r + i) ≡ o + r + 1 + i
+      place o i = omega arith
+
+module _ (f : List ℕ) (accepted : refusals standard f ≡ sound) where
+  rule-is : part f (offset f 2) (size f 2) ≡ flat (read f .nodes) ++ (read f .root ∷ [])
+  rule-is =
+      let e : size f 2 ≡ suc (3 * (size f 2 / 3)) = omega (arith, rule-length f accepted) in
+      ap (part f (offset f 2)) e ∙ part-more f (offset f 2) (3 * (size f 2 / 3))
+      ∙ ap (λ l. l ++ (read f .root ∷ [])) (part-triples f (offset f 2) (size f 2 / 3))
+
+  rule-size : length (flat (read f .nodes) ++ (read f .root ∷ [])) ≡ size f 2
+  rule-size =
+      omega (arith, length-append (flat (read f .nodes)) (read f .root ∷ []), length-flat (read f .nodes), nodes-length f, rule-length f accepted)
+
+-- ---- the merged case
+module _ {f : List ℕ} {p : Pair} {rows : List ℕ} {z : Sizes} (m : Measured f p rows z) where
+  c : Case
+  c = merge (read f) (p .kept) (p .removed)
+
+  valid : Valid standard (read f)
+  valid = accepted-valid standard f (m .named .accepted)
+
+  states : length (c .labels) ≡ p .removed + (length (read f .labels) - suc (p .removed))
+  unfolding c merge
+  states = simp (length-append, length-take-le (p .removed) (read f .labels) (m .named .removed), length-drop)
+
+  steps : inOrder 2048 (relation rows) ≡ c .steps
+  unfolding c merge
+  steps = rows-order (m .marks)
+
+  step-bytes : length (flat (c .steps)) ≡ z .steps
+  step-bytes = ap (λ l. length (flat l)) (sym steps) ∙ length-flat (inOrder 2048 (relation rows)) ∙ sym (m .steps)
+
+  pub total-is : total z ≡ length (mergedFile f p)
+  unfolding c
+  total-is =
+      let e : length (c .nodes) ≡ length (read f .nodes) = unfold merge in refl in
+      omega (arith, length-write c, states, ap length steps, m .labels, m .steps, m .rule, nodes-length f, rule-length f (m .named .accepted))
+
+  abbrev sizes : List ℕ
+  sizes = z .labels ∷ z .steps ∷ z .rule ∷ []
+
+  pub merged-laid : {w v1 v2 v3 v4 v5 : List ℕ} {a b d e g : ℕ} (n o q : ℕ) → n ≡ z .labels - p .removed → o ≡ offset f 0 → q ≡ offset f 2
+      → Laid w v1 0 a (pairs (4 * length sizes) sizes) → Laid v1 v2 a b (part f o (p .removed)) → Laid v2 v3 b d (part f (o + p .removed + 1) n)
+      → Laid v3 v4 d e (flat (inOrder 2048 (relation rows))) → Laid v4 v5 e g (part f q (z .rule)) → Laid w v5 0 g (mergedFile f p)
+  unfolding c write merge
+  merged-laid n o q i j k h1 h2 h3 h4 h5 =
+      let len : n ≡ length (read f .labels) - suc (p .removed) = omega (arith, m .labels) in
+      let labels = (λ y. part f (j y) (p .removed) ++ part f (j y + p .removed + 1) (len y)) ∙ labels-are f (p .removed) (m .named .removed) in
+      let rule = ap₂ (part f) k (m .rule) ∙ rule-is f (m .named .accepted) in
+      laid-packed sizes h1 (next (m .labels ∙ sym states) (laid-as labels (laid-after h2 h3))
+      (next (sym step-bytes) (laid-as (ap flat steps) h4)
+      (next (m .rule ∙ sym (rule-size f (m .named .accepted))) (laid-as rule h5) ended)))
+
+  -- each part lies within the file, and the sizes are small
+  pub record Within : Type 0 where
+    pub first : offset f 0 + length (read f .labels) < length f
+    pub last : offset f 2 + size f 2 ≤ length f
+    pub few : length (read f .labels) ≤ 16
+    pub steps-few : length (inOrder 2048 (relation rows)) ≤ 2048
+    pub rule-few : size f 2 ≤ 193
+
+  pub fits : Within
+  fits =
+      let ok = accepted-pairs standard f (m .named .accepted) in
+      record {
+        first = omega (arith, rule-after f ok, within standard f ok 2 (omega arith), labels-length f, rule-length f (m .named .accepted));
+        last = within standard f ok 2 (omega arith);
+        few = valid .table .few;
+        steps-few = order-few (relation rows) 2048;
+        rule-few = omega (arith, valid .rule .most, nodes-length f, rule-length f (m .named .accepted));
+      }
+
+-- from what is known before anything is measured
+pub named-valid : {f : List ℕ} {p : Pair} {n : ℕ} → Named f p n → Valid standard (read f)
+named-valid {f} h = accepted-valid standard f (h .accepted)
+
+pub measured : {f : List ℕ} {p : Pair} {n : ℕ} {rows merged : List ℕ} (z : Sizes) → Named f p n → StepRows (read f .steps) rows
+    → StepRows (movedSteps (p .kept) (p .removed) (inOrder 2048 (relation rows))) merged → z .labels ≡ p .removed + (n - suc (p .removed))
+    → z .steps ≡ 3 * length (inOrder 2048 (relation merged)) → z .rule ≡ size f 2 → Measured f p merged z
+measured {f} {p} z h R m i j k = record {
+  named = record { accepted = h .accepted; states = refl; kept = omega (arith, h .states); removed = omega (arith, h .states) };
+  marks = carried-all (named-valid h .table) (p .kept) (p .removed) R m;
+  labels = omega (arith, h .states);
+  steps = j;
+  rule = k;
+}

@@ -1,0 +1,72 @@
+-- `merged_steps::rows::put_steps` meets its contract: after x turns the steps among the triples numbered below x are laid.
+use mathlib.Core.Path.{_≡_}
+use Prim.Native.Nat.{_-_, _≤_}
+use native.Mathlib.Omega.{arith}
+use Rattle.case_model.specs.Case.{flat}
+use Rattle.case_model.specs.Merging.{inOrder}
+use Rattle.case_model.proofs.Codec.{length-flat}
+use Rattle.case_model.specs.Areas.{Laid}
+use Rattle.case_reader.specs.StepRows.{relation}
+use Rattle.case_model.proofs.Laying.{laid-none}
+use Rattle.merged_steps.proofs.Relations.{laid-turn, turn-room}
+use borrow.Author.Needs.{needs}
+use Rattle.merged_steps.proofs.rows.put_steps.Statement.{statement}
+use Rattle.merged_steps.proofs.rows.put_steps.Tie as tie
+
+abbrev Inv-loop : tie.InvT-loop
+Inv-loop rows out₀ base at₀ x₀ out at x = Laid out₀ out base at (flat (inOrder x (relation rows))) × (x ≤ 2048)
+
+abbrev μ-loop : tie.MeasureT-loop
+μ-loop rows out₀ base at₀ x₀ out at x = 2048 - x
+
+loop-holds : tie.Need-loop-holds Inv-loop μ-loop
+unfolding inOrder
+loop-holds c = (laid-none _ _, omega arith)
+
+is-step-requires : tie.Need-is-step-requires Inv-loop μ-loop
+is-step-requires c κs = search needs
+
+put-step-requires : tie.Need-put-step-requires Inv-loop μ-loop
+put-step-requires c κs =
+    let at-loop = c .before .before .before in
+    let start = at-loop .before .before in
+    let (l, few) = at-loop .loop .inv in
+    (omega arith, turn-room _ _ _ (c .before .before .loop-test .taken) (start .pre) l (c .before .is-step .ensures))
+
+add-x : tie.Need-add-x Inv-loop μ-loop
+add-x c = search needs
+
+loop-less : tie.Need-loop-less Inv-loop μ-loop
+loop-less c = search needs
+
+loop-again : tie.Need-loop-again Inv-loop μ-loop
+loop-again c =
+    let at-put-step = c .before .before in
+    let at-is-step = at-put-step .before .before in
+    let at-loop = at-is-step .before .before in
+    let (l, few) = at-loop .loop .inv in
+    (laid-turn _ _ _ l (at-is-step .is-step .ensures) (at-put-step .put-step .ensures), omega arith)
+
+same-length : tie.Need-same-length Inv-loop μ-loop
+same-length c = c .before .loop .inv .0 .long
+
+returns : tie.Need-returns Inv-loop μ-loop
+returns c =
+    let e : c .before .loop .x ≡ 2048 = omega arith in
+    let l = rw e at (c .before .loop .inv .0) in
+    (l, omega (arith, l .ends, length-flat (inOrder 2048 (relation (c .before .before .before .args .rows)))))
+
+pub put-steps-spec : {M : Type 1} → statement M
+put-steps-spec =
+    tie.close
+    (tie.spec
+    Inv-loop
+    μ-loop
+    loop-holds
+    is-step-requires
+    put-step-requires
+    add-x
+    loop-less
+    loop-again
+    same-length
+    returns)

@@ -1,2 +1,0 @@
-pub mod Relation
-pub mod Merged

@@ -1,0 +1,2 @@
+pub mod Renewed
+pub mod NewFile

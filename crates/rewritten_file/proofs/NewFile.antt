@@ -1,0 +1,108 @@
+-- The new file, part by part: how long it is, what its parts are, and that they lie there once they are laid one after the other.
+-- The labels and the steps are sections of the old file; the steps are whole triples, because no refusal was found.
+use Prim.Native.Nat.{ℕ, _+_, _*_, _/_, _%_, _≤_, _<_}
+use mathlib.Core.List.{List, [], _∷_}
+use mathlib.Core.Path.{_≡_, refl, sym, ap, _∙_}
+use native.Mathlib.Omega.{arith}
+use borrow.Author.Tests.{eqb-true}
+use lib.ListN.{length, length-append}
+use Rattle.case_model.specs.Areas.{Laid}
+use Rattle.case_model.specs.Bytes.{listOf, offset, size, section, pairs}
+use Rattle.case_model.specs.Case.{triples, write, flat, at}
+use Rattle.case_model.specs.Kinds.{Triple}
+use Rattle.case_model.specs.Limits.{sections, standard}
+use Rattle.case_model.specs.Rewriting.{rewrite}
+use Rattle.case_model.specs.Rows.{sound, refusals}
+use Rattle.case_model.proofs.Tests.{and-l, and-r}
+use Rattle.case_model.proofs.Laying.{laid-none, laid-as}
+use Rattle.case_model.proofs.Lists.{length-listOf, listOf-getD}
+use Rattle.case_model.proofs.Sections.{within, left-sound, right-sound, unless-sound}
+use Rattle.case_model.proofs.Valid.{accepted-pairs}
+use Rattle.case_model.proofs.Codec.{length-flat, length-write}
+use Rattle.case_model.proofs.Steps.{steps-few}
+use Rattle.case_writer.specs.Parts.{part}
+use Rattle.case_writer.proofs.Parts.{length-part, part-triples, laid-triple}
+use Rattle.case_writer.proofs.Packing.{ended, next, laid-packed}
+use Rattle.rewritten_file.specs.Plans.{renewed, ruleBytes, Planned}
+use Rattle.rewritten_file.specs.declared.plan.Plan.{Plan}
+use Rattle.rewritten_file.proofs.Renewed.{valid}
+
+-- ---- the parts that stay
+pub section-bytes : (f : List ℕ) (k : ℕ) → part f (offset f k) (size f k) ≡ section f k
+unfolding part section
+section-bytes f k = refl
+
+pub section-length : (f : List ℕ) (k : ℕ) → length (section f k) ≡ size f k
+section-length f k = ap length (sym (section-bytes f k)) ∙ length-part f (offset f k) (size f k)
+
+ruleset rows = (left-sound, right-sound, unless-sound, and-l, and-r)
+
+steps-whole : (f : List ℕ) → refusals standard f ≡ sound → size f 1 ≡ 3 * (size f 1 / 3)
+unfolding refusals
+steps-whole f e =
+    let third : size f 1 % 3 ≡ 0 = eqb-true _ _ (search rows depth 10) in
+    omega arith
+
+steps-bytes : (f : List ℕ) → refusals standard f ≡ sound → section f 1 ≡ flat (triples f 1)
+steps-bytes f e = sym (section-bytes f 1) ∙ ap (part f (offset f 1)) (steps-whole f e) ∙ part-triples f (offset f 1) (size f 1 / 3)
+
+-- ---- the new nodes, laid one by one
+-- the first i of them are laid, up to `end`
+pub record NodesLaid (f : List ℕ) (p : Plan) (w v : List ℕ) (base end i : ℕ) : Type 0 where
+  pub inside : i ≤ p .nodes
+  pub laid : Laid w v base end (flat (listOf i (at (renewed f p .nodes))))
+
+pub nodes-none : (f : List ℕ) (p : Plan) (w : List ℕ) (base : ℕ) → NodesLaid f p w w base base 0
+unfolding listOf
+nodes-none f p w base = record { inside = omega arith; laid = laid-none w base }
+
+module _ {f : List ℕ} {p : Plan} {w v : List ℕ} {base end i : ℕ} (k : NodesLaid f p w v base end i) where
+  -- there is room for a node
+  pub nodes-room : i < p .nodes → end + 3 ≤ base + 3 * p .nodes
+  nodes-room l =
+      let g : ℕ → Triple = at (renewed f p .nodes) in
+      omega (arith, k .laid .ends, length-flat (listOf i g), length-listOf i g)
+
+  pub nodes-turn : i < p .nodes → {u : List ℕ} {end′ : ℕ} (t : Triple) → t ≡ at (renewed f p .nodes) i → Laid v u end end′ (flat (t ∷ []))
+      → NodesLaid f p w u base end′ (i + 1)
+  nodes-turn l t e a = record {
+    inside = omega arith;
+    laid = laid-triple (at (renewed f p .nodes)) i (k .laid) (laid-as (ap (λ (t : Triple). flat (t ∷ [])) e) a);
+  }
+
+  pub nodes-all : Planned f p → p .nodes ≤ i → Laid w v base end (flat (renewed f p .nodes))
+  nodes-all h l =
+      let N : List Triple = renewed f p .nodes in
+      let e : i ≡ length N = omega (arith, k .inside, h .nodes) in
+      laid-as (ap flat (ap (λ n. listOf n (at N)) e ∙ listOf-getD N (0, 0, 0))) (k .laid)
+
+-- ---- the whole file
+module _ {f : List ℕ} {p : Plan} (h : Planned f p) where
+  -- a section ends within the old file
+  pub section-within : (k : ℕ) → k < sections → offset f k + size f k ≤ length f
+  section-within = within standard f (accepted-pairs standard f (h .accepted))
+
+  pub new-length : length (write (renewed f p)) ≡ 4 * sections + size f 0 + size f 1 + 3 * p .nodes + 1
+  unfolding rewrite
+  new-length =
+      let s : length (triples f 1) ≡ size f 1 / 3 = length-listOf (size f 1 / 3) _ in
+      omega (arith, length-write (renewed f p), section-length f 0, steps-whole f (h .accepted), h .nodes)
+
+  -- so its pairs are numbers of two bytes
+  pub new-short : length (write (renewed f p)) < 65536
+  new-short = omega (arith, length-write (renewed f p), steps-few (valid h .table), valid h .table .few, valid h .rule .most)
+
+  rule-length : 3 * p .nodes + 1 ≡ length (ruleBytes (renewed f p))
+  rule-length = simp (length-append, length-flat) (omega (arith, h .nodes))
+
+  -- its head, the two sections that stay and the rule, laid one after the other
+  pub laid-new : {n₀ n₁ : ℕ} → n₀ ≡ size f 0 → n₁ ≡ size f 1 → {w a b c u : List ℕ} {at₀ at₁ at₂ end : ℕ}
+      → Laid w a 0 at₀ (pairs (4 * sections) (n₀ ∷ n₁ ∷ (3 * p .nodes + 1) ∷ [])) → Laid a b at₀ at₁ (section f 0) → Laid b c at₁ at₂ (section f 1)
+      → Laid c u at₂ end (ruleBytes (renewed f p)) → Laid w u 0 end (write (renewed f p))
+  unfolding write rewrite
+  laid-new {n₀} {n₁} q₀ q₁ head labels steps rule =
+      let s : section f 1 ≡ flat (triples f 1) = steps-bytes f (h .accepted) in
+      laid-packed (n₀ ∷ n₁ ∷ (3 * p .nodes + 1) ∷ []) head
+      (next (q₀ ∙ sym (section-length f 0)) labels
+      (next (q₁ ∙ sym (section-length f 1) ∙ ap length s) (laid-as s steps)
+      (next rule-length rule ended)))

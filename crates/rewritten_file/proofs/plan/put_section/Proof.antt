@@ -1,0 +1,47 @@
+-- `rewritten_file::plan::put_section` meets its contract: the part of the file that the section's pair tells.
+use mathlib.Core.Path.{ap₂, _∙_}
+use native.Mathlib.Omega.{arith}
+use borrow.Author.Needs.{needs}
+use Rattle.case_model.specs.Bytes.{offset, size}
+use Rattle.case_model.proofs.Laying.{laid-as}
+use Rattle.case_reader.proofs.Readers.{there}
+use Rattle.case_writer.specs.Parts.{part}
+use Rattle.rewritten_file.proofs.NewFile.{section-bytes}
+use Rattle.rewritten_file.proofs.plan.put_section.Statement.{statement}
+use Rattle.rewritten_file.proofs.plan.put_section.Tie as tie
+
+section-offset-requires : tie.Need-section-offset-requires
+section-offset-requires c κs = search needs
+
+section-size-requires : tie.Need-section-size-requires
+section-size-requires c κs = search needs
+
+put-part-requires : tie.Need-put-part-requires
+put-part-requires c κs =
+    let at-section-offset = c .before .before in
+    let start = at-section-offset .before .before .before in
+    let a = start .args in
+    let pre = start .pre in
+    let o = there (pre .0) (offset (a .file .now) (a .k)) (at-section-offset .section-offset .ensures .is) in
+    let s = there (pre .0) (size (a .file .now) (a .k)) (c .before .section-size .ensures .is) in
+    (omega (arith, pre .1), omega (arith, pre .2))
+
+same-length : tie.Need-same-length
+same-length c = search needs
+
+returns : tie.Need-returns
+returns c =
+    let at-put-part = c .before .before in
+    let at-section-size = at-put-part .before .before in
+    let at-section-offset = at-section-size .before in
+    let start = at-section-offset .before .before .before in
+    let a = start .args in
+    let pre = start .pre in
+    let o = there (pre .0) (offset (a .file .now) (a .k)) (at-section-offset .section-offset .ensures .is) in
+    let s = there (pre .0) (size (a .file .now) (a .k)) (at-section-size .section-size .ensures .is) in
+    laid-as (ap₂ (part (a .file .now)) o s ∙ section-bytes (a .file .now) (a .k)) (at-put-part .put-part .ensures .0)
+
+pub put-section-spec : {M : Type 1} → statement M
+put-section-spec =
+    tie.close
+    (tie.spec section-offset-requires section-size-requires put-part-requires same-length returns)

@@ -1,0 +1,5 @@
+pub mod Comparing
+pub mod Digits
+pub mod Sizes
+pub mod Modalities
+pub mod Values
