@@ -77,8 +77,8 @@ def worst():
 
 
 def deepest():
-    """For each n the deepest rule that was measured, of either sort."""
-    table = read("performance.tsv")
+    """For each n the deepest rule, of either sort, that ended within a minute."""
+    table = [r for r in read("performance.tsv") if int(r["nanoseconds"]) <= 60 * 10**9]
     sorts = ["binders of one kind", "alternating binders"]
     rows = []
     for n in sorted({int(r["n"]) for r in table if r["series"] in sorts}):

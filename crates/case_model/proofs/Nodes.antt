@@ -47,6 +47,13 @@ fits-names _ (fits-pair o a b p q) i (inl e) = omega arith
 fits-names _ (fits-pair o a b p q) i (inr e) = omega arith
 fits-names _ (fits-binder d v b p q) i e = omega arith
 
+-- a binder's operands
+pub fits-bind : {j : ℕ} {d : Bool} {v b : ℕ} (n : Node) → Fits j n → n ≡ bind d v b → (v < variables) × (b < j)
+fits-bind _ (fits-constant x) e = absurd (let z : _≡_ {A = ℕ} 0 1 = cc in omega arith)
+fits-bind _ (fits-variable u l) e = absurd (let z : _≡_ {A = ℕ} 0 1 = cc in omega arith)
+fits-bind _ (fits-pair o f g p q) e = absurd (let z : _≡_ {A = ℕ} 0 1 = cc in omega arith)
+fits-bind {v = v} {b} _ (fits-binder f u g p q) e = let a : u ≡ v = cc in let z : g ≡ b = cc in (omega arith, omega arith)
+
 -- a variable of 16 and up is free in no node's tree that is made of trees without it
 fits-free : {j : ℕ} (w : ℕ) → variables ≤ w → (n : Node) → Fits j n → (φ : ℕ → Formula) → ((i : ℕ) → T (free w (φ i)) → ⊥) → T (free w (tree n φ)) → ⊥
 unfolding free

@@ -26,7 +26,7 @@ use Rattle.case_model.specs.Valid.{ValidRule, Valid}
 use Rattle.case_model.specs.Reach.{Reached, ReachSet}
 use Rattle.case_model.specs.Areas.{Filled, from}
 use Rattle.case_model.proofs.Lists.{getD-listOf, getD-listOf-end, zeros}
-use Rattle.case_model.proofs.Nodes.{Fits, fits-constant, fits-variable, fits-pair, fits-binder, node-fits, one-binder, closed-all}
+use Rattle.case_model.proofs.Nodes.{fits-bind, node-fits, one-binder, closed-all}
 use Rattle.case_reader.specs.Read.{freeSets}
 use Rattle.case_reader.specs.StepRows.{stepsRead, StepRows}
 use Rattle.case_reader.proofs.Readers.{free-set}
@@ -77,15 +77,9 @@ nodes-are c most {w} {v} z s zeros j = elim (decLt j mostNodes) [
 binders-are : {c : Case} → ValidRule c → Binders (nodeAt c) (length (c .nodes))
 binders-are {c} valid = record {
   most = valid .most;
-  low = λ j {d} {v} {b} h e. go (nodeAt c j) (node-fits valid j h) e;
+  low = λ j h e. fits-bind (nodeAt c j) (node-fits valid j h) e .0;
   one = λ i j h k e q. one-binder valid i j h k e q;
 }
-  where
-    go : {j : ℕ} {d : Bool} {v b : ℕ} (m : Node) → Fits j m → m ≡ bind d v b → v < variables
-    go _ (fits-constant y) q = absurd (let z : _≡_ {A = ℕ} 0 1 = cc in omega arith)
-    go _ (fits-variable u l) q = absurd (let z : _≡_ {A = ℕ} 0 1 = cc in omega arith)
-    go _ (fits-pair o f g h l) q = absurd (let z : _≡_ {A = ℕ} 0 1 = cc in omega arith)
-    go {v = v} _ (fits-binder f u g h l) q = let a : u ≡ v = cc in omega arith
 
 -- ---- the parts
 -- the words that are there before them

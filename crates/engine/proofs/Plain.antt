@@ -22,7 +22,7 @@ use Rattle.case_model.specs.Kinds as byTable
 use Rattle.case_model.specs.Kinds.{fits, kinds, kindAt, nodeOf, nodeHolds}
 use Rattle.case_model.specs.Areas.{Filled}
 use Rattle.case_model.proofs.Tests.{is-true, and-l, and-r}
-use Rattle.case_model.proofs.Nodes.{Fits, fits-constant, fits-variable, fits-pair, fits-binder}
+use Rattle.case_model.proofs.Nodes.{Fits, fits-constant, fits-variable, fits-pair, fits-binder, fits-bind}
 use Rattle.case_reader.specs.declared.parts.Triple as code
 use Rattle.case_reader.specs.declared.kinds.Atom.{Atom}
 use Rattle.case_reader.specs.declared.kinds.Atom.the-variants as atoms
@@ -106,13 +106,7 @@ pub operator-low : {p : Plan} → Sound p → (j : ℕ) → j < p .count → {o 
 operator-low S j h {b = b} e = node-lower S j h b (subst (λ n. Names n b) (sym e) (inr refl))
 
 pub binder-fits : {p : Plan} → Sound p → (j : ℕ) → j < p .count → {d : Bool} {v b : ℕ} → nodesOf p j ≡ bind d v b → (v < variables) × (b < j)
-binder-fits {p} S j h {d} {v} {b} e = go (nodesOf p j) (node-fits S j h) e
-  where
-    go : (m : Node) → Fits j m → m ≡ bind d v b → (v < variables) × (b < j)
-    go _ (fits-constant y) q = absurd (let z : _≡_ {A = ℕ} 0 1 = cc in omega arith)
-    go _ (fits-variable u l) q = absurd (let z : _≡_ {A = ℕ} 0 1 = cc in omega arith)
-    go _ (fits-pair o f g h l) q = absurd (let z : _≡_ {A = ℕ} 0 1 = cc in omega arith)
-    go _ (fits-binder f u g h l) q = let a : u ≡ v = cc in let z : g ≡ b = cc in (omega arith, omega arith)
+binder-fits {p} S j h e = fits-bind (nodesOf p j) (node-fits S j h) e
 
 -- ---- functions
 -- a node's tree is made of those of the nodes that it names

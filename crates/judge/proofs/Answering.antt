@@ -3,11 +3,9 @@
 use Prim.Native.Nat.{ℕ, _+_, _*_, _%_, _^_, _≤_, _<_}
 use mathlib.Core.List.{List}
 use mathlib.Core.Path.{_≡_, sym, ap, ap₂, _∙_, subst}
-use native.Mathlib.Nat.{one-mul, mod-eq-of-lt}
 use native.Mathlib.Omega.{arith}
 use borrow.Author.Tests.{lt-ltb, le-ltb, le-leb, lt-leb}
 use lib.ListN.{length, getD, replicate, length-replicate}
-use lib.Pow.{pow-lt}
 use lib.Seq.{ext-getD}
 use Rattle.flc.specs.Formula.{Table, mean, none}
 use Rattle.flc.specs.Nodes.{Node, formulaAt, roundsAt}
@@ -25,6 +23,7 @@ use Rattle.case_model.proofs.Lists.{zeros}
 use Rattle.case_model.proofs.Judged.{judging-answers}
 use Rattle.case_model.proofs.Valid.{accepted-valid}
 use Rattle.case_plan.specs.Plans.{Plan, tableOf, nodesOf, Planned}
+use Rattle.case_plan.proofs.Assembling.{power}
 use Rattle.engine.specs.Computing.{Ran}
 use Rattle.engine.proofs.Frames.{apart}
 use Rattle.judge.specs.Asking.{Asked, planVerdict}
@@ -108,5 +107,5 @@ counted {f} {n} {m} s e q =
       valid = valid;
       nodes = q;
       few = few;
-      size = rw one-mul (mod-eq-of-lt (pow-lt {i = n} {j = 64} (omega arith))) ∙ ap (λ n. 2 ^ n) e;
+      size = power n few ∙ ap (λ n. 2 ^ n) e;
     }
