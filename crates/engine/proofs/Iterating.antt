@@ -118,6 +118,7 @@ module _ {p : Plan} {w₀ : List ℕ} {x : Binder} {act way : ℕ} (most : ℕ) 
         now = λ q k. sym (D .stood e q k) ∙ U .now q k;
         moved = U .changed;
         ends = inr (record { stands = stood e; settled = D .closed e });
+        settled = D .settled;
         stayed = stayed;
       }
 
@@ -160,5 +161,6 @@ module _ {p : Plan} {w₀ : List ℕ} {x : Binder} {act way : ℕ} (most : ℕ) 
       now = U .now;
       moved = U .changed;
       ends = inl (omega (arith, U .few));
+      settled = U .settled;
       stayed = U .stayed;
     }

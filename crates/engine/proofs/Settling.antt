@@ -203,7 +203,7 @@ module _ {p : Plan} {w w₀ : List ℕ} {act grown : ℕ} (x : Binder) (d : Bool
     all-right : Settled p act z (suc (x .node))
     all-right =
         let good = subst (GoodEnv (p .states)) (sym after-call) (C .ready .good) in
-        settled-more S act z (x .node) (λ m i l (r, only). end .settled (wide 16 m) i l (r, λ u D. wide u (only u D)))
+        settled-more S act z (x .node) (I .settled)
         (λ a. right-as-bound S act z good (x .node) (C .ready .below) a (subst (λ ρ. RightAt p ρ z (x .node)) (sym after-call) right))
         (λ i l only u q D. lower i l only)
 

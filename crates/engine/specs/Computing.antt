@@ -133,6 +133,7 @@ pub record Iterated (p : Plan) (w v : List ℕ) (x : Binder) (act most r : ℕ) 
   pub now : Agree (p .states) (block p v (x .node)) (after p w x act r)
   pub moved : (i : ℕ) → i < r → Agree (p .states) (after p w x act i) (after p w x act (suc i)) → ⊥
   pub ends : (r ≡ most) ⊎ Still p w v x act r
+  pub settled : Settled p act v (x .node)
   pub stayed : Stayed p (notAt p (x .node)) w v (x .node)
 
 -- ---- the whole rule

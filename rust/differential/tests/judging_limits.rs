@@ -45,6 +45,23 @@ fn words() {
     assert_eq!(compare(&file, 3, 79), refused(9, 0));
 }
 
+/// μZ.((τ or Z) or (Z;tt or ff)) with one state: n × 2^n rounds, as many as there can be.
+#[test]
+fn most_rounds() {
+    let (variable, top, bottom) = ((4, 0, 0), (0, 0, 0), (1, 0, 0));
+    let either = [(8, 4, 0), (8, 3, 2), (8, 5, 6)];
+    let nodes = [
+        &[variable, top, bottom, (10, 0, 1), TAU],
+        &either[..],
+        &[(11, 0, 7)],
+    ]
+    .concat();
+    let file = write(&case(1, &[], &nodes));
+    for set in 0..2 {
+        assert_eq!(compare(&file, set, 36), verdict(vec![true], 2));
+    }
+}
+
 /// Unreached nodes count too.
 #[test]
 fn words_for_every_node() {
