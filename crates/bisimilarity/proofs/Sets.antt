@@ -11,6 +11,7 @@ use lib.Dec.{T, eqb, eqb→eq, T-not, not-T}
 use lib.Pow.{pow-pos}
 use Rattle.flc.specs.Sets.{both, forAll, forSome, has, bit, setOf}
 use Rattle.flc.proofs.Tests.{bool-ext, forSome-use, forSome-mk}
+use Rattle.flc.proofs.Weight.{bit-rises}
 use Rattle.flc.proofs.Masks.{has-empty, setOf-lt, set-ext, has-and}
 use Rattle.case_model.proofs.Tests.{is-false}
 
@@ -27,12 +28,6 @@ pub setOf-more : (n : ℕ) (p : ℕ → Bool) → setOf (suc n) p ≡ setOf n p 
 unfolding setOf
 setOf-more zero p = lowest-place (p zero)
 setOf-more (suc n) p = omega (arith, setOf-more n (λ s. p (suc s)), twice (p (suc n)) n)
-
-bit-rises : (a b : Bool) → (T a → T b) → bit a ≤ bit b
-bit-rises true true h = omega arith
-bit-rises true false h = absurd (h tt)
-bit-rises false true h = omega arith
-bit-rises false false h = omega arith
 
 -- fewer states, a smaller number
 pub setOf-le : (n : ℕ) (p q : ℕ → Bool) → ((s : ℕ) → s < n → T (p s) → T (q s)) → setOf n p ≤ setOf n q

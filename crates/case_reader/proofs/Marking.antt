@@ -14,6 +14,7 @@ use lib.Pow.{pow-lt}
 use lib.Seq.{getD-set-same, getD-set-other, drop-cons, drop-length}
 use Rattle.flc.specs.Sets.{both, either, has}
 use Rattle.flc.proofs.Tests.{both-left, both-right}
+use Rattle.flc.proofs.Laws.{either-swap}
 use Rattle.flc.proofs.Masks.{has-or, has-empty, has-single}
 use Rattle.case_model.specs.Kinds.{Triple}
 use Rattle.case_model.specs.Case.{at, listed}
@@ -36,10 +37,6 @@ same x s a t u = record {
   action = eqb→eq (x .1) a (both-left _ _ (both-right _ _ u));
   to = eqb→eq (x .2) t (both-right _ _ (both-right _ _ u));
 }
-
-either-comm : (a b : Bool) → either a b ≡ either b a
-unfolding either
-either-comm a b = or-comm a b
 
 module _ (x : Triple) where
   -- a step that has no place has no bit
@@ -101,7 +98,7 @@ module _ {l : List Triple} {rows : List ℕ} (R : StepRows l rows) (x : Triple) 
   more s a t hs ha ht = elim (ℕ-discrete (8 * s + a) (rowOf x)) [
     | yes q ↦
         ap (λ j. has (getD (set rows (rowOf x) entry) j 0) t) q ∙ ap (λ y. has y t) (getD-set-same rows (rowOf x) entry 0 row-in)
-        ∙ has-or (getD rows (rowOf x) 0) (bitOf x) t ∙ either-comm (has (getD rows (rowOf x) 0) t) (has (bitOf x) t)
+        ∙ has-or (getD rows (rowOf x) 0) (bitOf x) t ∙ either-swap (has (getD rows (rowOf x) 0) t) (has (bitOf x) t)
         ∙ ap₂ either (in-row x s a t hs ha ht q) (ap (λ j. has (getD rows j 0) t) (sym q))
     | no q ↦
         ap (λ y. has y t) (getD-set-other rows (rowOf x) (8 * s + a) entry 0 q)

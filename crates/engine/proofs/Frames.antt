@@ -18,13 +18,20 @@ use Rattle.flc.proofs.Masks.{set-ext, has-or, has-single}
 use Rattle.case_model.specs.Limits.{variables}
 use Rattle.case_model.specs.Areas.{Filled}
 use Rattle.case_model.proofs.Tests.{is-true}
-use Rattle.case_plan.specs.Plans.{Plan, Within, everyMark}
+use Rattle.case_plan.specs.Plans.{Plan, Within, Sound, everyMark}
 use Rattle.engine.specs.Blocks.{block, Kept, env}
 
 -- ---- words
 -- a block ends where a later one begins, or before
 pub apart : (size i j : ℕ) → i < j → i * size + size ≤ j * size
 apart size i j h = omega (arith, suc-mul i size, mul-le-mul-right {m = suc i} {n = j} size h)
+
+-- the entries of a table are those of the sets
+pub in-table : {p : Plan} → Sound p → (x : ℕ) → x < 2 ^ p .states → x < p .size
+in-table S x k = subst (λ m. x < m) (sym (S .sized .size)) k
+
+pub in-sets : {p : Plan} → Sound p → (x : ℕ) → x < p .size → x < 2 ^ p .states
+in-sets S x h = subst (λ m. x < m) (S .sized .size) h
 
 pub kept-none : (p : Plan) (w : List ℕ) (k : ℕ) → Kept p w w k
 kept-none p w k = record { long = refl; above = λ q h. refl }

@@ -1,11 +1,10 @@
 -- Reached nodes that are right with every variable read as its binder's block has it are right with each variable as its own fixed point.
 -- By the binders from the highest down: the free variables of one have their binders above it, so that its block is its variable's own function.
 use Prim.Native.Nat.{ℕ, zero, suc, _+_, _≤_, _<_}
-use mathlib.Core.Bool.{Bool, cond}
+use mathlib.Core.Bool.{Bool}
 use mathlib.Core.List.{List}
-use mathlib.Core.Path.{_≡_, sym, ap, _∙_, subst}
+use mathlib.Core.Path.{_≡_, sym, ap, _∙_}
 use native.Mathlib.Omega.{arith}
-use borrow.Author.Tests.{lt-ltb}
 use lib.Dec.{T, eqb-refl, eqb→eq}
 use Rattle.flc.specs.Formula.{Env, free}
 use Rattle.flc.specs.Nodes.{Node, leaf, two, bind, formulaAt}
@@ -18,6 +17,7 @@ use Rattle.case_plan.specs.Plans.{Plan, tableOf, nodesOf, meaning, Sound}
 use Rattle.engine.specs.Blocks.{block, RightAt}
 use Rattle.engine.specs.Dependence.{asBound}
 use Rattle.engine.proofs.Depending.{bound, reached-there}
+use Rattle.engine.proofs.Staying.{as-bound-at}
 
 -- a node that binds w is its binder
 binder-is : (m : Node) (w : ℕ) → T (binds m w) → (d : Bool) × (b : ℕ) × (m ≡ bind d w b)
@@ -47,9 +47,8 @@ module _ {p : Plan} (S : Sound p) (w : List ℕ) (R : (i : ℕ) → Reached (nod
   higher : (i : ℕ) → Reached (nodesOf p) (p .root) i
       → ((v : ℕ) → T (free v (formulaAt (nodesOf p) i)) → Agree (p .states) (block p w (p .homes v)) (ρ v))
       → Agree (p .states) (meaning p i (asBound p w)) (meaning p i ρ)
-  unfolding asBound
   higher i r up = mean-env (tableOf p) (formulaAt (nodesOf p) i) (asBound p w) ρ (λ v t. own-good (tableOf p) (nodesOf p) (p .count) v) (λ v t x k.
-      ap (λ b. cond b (block p w (p .homes v) x) 0) (lt-ltb x (p .size) (subst (λ m. x < m) (sym (S .sized .size)) k)) ∙ up v t x k)
+      as-bound-at S w v x k ∙ up v t x k)
 
   -- and they have, the highest first
   homes : (k i v : ℕ) → p .count ≤ i + k → Reached (nodesOf p) (p .root) i → T (free v (formulaAt (nodesOf p) i))

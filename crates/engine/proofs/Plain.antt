@@ -35,7 +35,7 @@ use Rattle.case_reader.proofs.Knowing.{by-kind}
 use Rattle.case_plan.specs.Plans.{Plan, nodesOf, meaning, tableOf, Within, Sound}
 use Rattle.case_plan.proofs.Scopes.{node-fits, node-lower, scope-frees, scope-names}
 use Rattle.engine.specs.Blocks.{block, env, Right, value, Fillable, NodeFilled}
-use Rattle.engine.proofs.Frames.{apart}
+use Rattle.engine.proofs.Frames.{apart, in-sets}
 
 -- ---- a node of a known kind
 module _ (p : Plan) (j : ℕ) {t : code.Triple} (r : triple t ≡ p .nodes j) {k k′ : Kind} (e : lineOf k ≡ kindAt (t .0)) (q : k ≡ k′) where
@@ -154,6 +154,6 @@ module _ {p : Plan} (S : Sound p) (act : ℕ) (w : List ℕ) (G : GoodEnv (p .st
   -- an operator's second node has a table of sets
   pub second-sets : (b : ℕ) → b < j → Within (p .scopes b) (p .scopes j) → (x : ℕ) → x < p .size → block p w b x < p .size
   second-sets b l s x h =
-      let k = subst (λ m. x < m) (S .sized .size) h in
+      let k = in-sets S x h in
       let small = mean-small (tableOf p) (formulaAt (nodesOf p) b) (env p act w) G x k in
       omega (arith, S .sized .size, named b l s x k, small)

@@ -20,7 +20,7 @@ use Rattle.engine.specs.Blocks.{Kept, env, Right, RightAt, Fillable, Nod
 use Rattle.engine.specs.Dependence.{Depends, Only, asBound, Settled}
 use Rattle.engine.specs.Moves.{up, Older}
 use Rattle.engine.specs.Computing.{Ready, Refreshable, Refreshed, notAt, Computable, Computed, roundsIn}
-use Rattle.engine.proofs.Frames.{kept-none, kept-block, kept-up, kept-trans, filled-kept, filled-lower, or-within, within-or, env-kept}
+use Rattle.engine.proofs.Frames.{in-table, kept-none, kept-block, kept-up, kept-trans, filled-kept, filled-lower, or-within, within-or, env-kept}
 use Rattle.engine.proofs.Plain.{free-var, operator-low, value-right, second-sets}
 use Rattle.engine.proofs.Depending.{depends-met, depends-binder, own-depends, depends-through, depends-within, within-mk}
 use Rattle.engine.proofs.Staying.{right-as-bound, stays-right, filled-stayed, settled-filled, only-new, settled-lower, settled-more}
@@ -208,7 +208,7 @@ module _ {p : Plan} {w : List ℕ} {j act grown : ℕ} (C : Computable p w j act
 
   module _ {v : List ℕ} (F : NodeFilled p w v j) where
     size : (x : ℕ) → x < 2 ^ p .states → x < p .size
-    size x k = subst (λ m. x < m) (sym (sound .sized .size)) k
+    size = in-table sound
 
     here : RightAt p (env p act w) v j
     here x k = F .inside x (size x k) ∙ value-right sound act w (C .ready .good) j there (C .within) (C .right) plain x k

@@ -36,7 +36,7 @@ use Rattle.engine.specs.Blocks.{block, Kept, env, Right, RightAt}
 use Rattle.engine.specs.Dependence.{Only, asBound, Settled}
 use Rattle.engine.specs.Moves.{anew, up, direction, begins, Older}
 use Rattle.engine.specs.Computing.{Computable, Computed, roundsIn, body, wider, Iterable, Iterated, Still, after}
-use Rattle.engine.proofs.Frames.{kept-trans, filled-kept, filled-lower, wider-mk}
+use Rattle.engine.proofs.Frames.{in-table, kept-trans, filled-kept, filled-lower, wider-mk}
 use Rattle.engine.proofs.Depending.{depends-binder, depends-above, depends-up}
 use Rattle.engine.proofs.Staying.{right-as-bound, settled-filled, settled-more}
 use Rattle.engine.proofs.Refreshing.{env-same, ready-after, ready-above}
@@ -81,7 +81,7 @@ module _ {p : Plan} {w w₀ : List ℕ} {act grown : ℕ} (x : Binder) (d : Bool
   S = C .ready .sound
 
   size : (q : ℕ) → q < 2 ^ p .states → q < p .size
-  size q k = subst (λ m. q < m) (sym (S .sized .size)) k
+  size = in-table S
 
   -- the node's function, from that of its body
   binder-mean : (ρ : Env) → meaning p (x .node) ρ ≡ mean (tableOf p) (fix d (x .variable) (formulaAt (nodesOf p) (x .body))) ρ

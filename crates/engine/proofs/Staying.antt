@@ -23,7 +23,7 @@ use Rattle.case_plan.proofs.Scopes.{scope-frees}
 use Rattle.engine.specs.Blocks.{block, Kept, env, RightAt}
 use Rattle.engine.specs.Dependence.{Depends, outer, inner, Only, Stayed, asBound, Settled}
 use Rattle.engine.specs.Computing.{notAt}
-use Rattle.engine.proofs.Frames.{kept-block, filled-kept, filled-lower}
+use Rattle.engine.proofs.Frames.{in-table, kept-block, filled-kept, filled-lower}
 use Rattle.engine.proofs.Plain.{env-active}
 use Rattle.engine.proofs.Depending.{bound, depends-small, depends-above, depends-up, depends-down, within-mk, own-depends}
 
@@ -36,18 +36,21 @@ as-bound-same p w v u h = fun-ext λ x.
     → cond b (block p v (p .homes u) x) 0 ≡ cond b (block p w (p .homes u) x) 0)
     [ true ↦ λ f. f tt | false ↦ λ f. refl ] (λ t. h x (ltb→lt x (p .size) t))
 
+-- at a set
+pub as-bound-at : {p : Plan} → Sound p → (w : List ℕ) (u x : ℕ) → x < 2 ^ p .states → asBound p w u x ≡ block p w (p .homes u) x
+unfolding asBound
+as-bound-at {p} S w u x k = ap (λ b. cond b (block p w (p .homes u) x) 0) (lt-ltb x (p .size) (in-table S x k))
+
 -- a node that depends only on what is active is right so if it is right with the active variables' functions
 pub right-as-bound : {p : Plan} → Sound p → (act : ℕ) (w : List ℕ) → GoodEnv (p .states) (env p act w)
     → (j : ℕ) → j < p .count → Within (p .scopes j) act → RightAt p (env p act w) w j → RightAt p (asBound p w) w j
-unfolding asBound
 right-as-bound {p} S act w G j h within R x k =
     R x k ∙ sym (mean-env (tableOf p) (formulaAt (nodesOf p) j) (asBound p w) (env p act w) (λ u t. G u) same x k)
   where
     same : (u : ℕ) → T (free u (formulaAt (nodesOf p) j)) → (x : ℕ) → x < 2 ^ p .states → asBound p w u x ≡ env p act w u x
     same u t x k =
         let (l, s) = scope-frees S j u h t in
-        ap (λ b. cond b (block p w (p .homes u) x) 0) (lt-ltb x (p .size) (subst (λ m. x < m) (sym (S .sized .size)) k))
-        ∙ ap (λ f. f x) (sym (env-active p act w u l (within u (omega arith) s)))
+        as-bound-at S w u x k ∙ ap (λ f. f x) (sym (env-active p act w u l (within u (omega arith) s)))
 
 -- ---- what stays
 module _ {p : Plan} (S : Sound p) where
@@ -59,7 +62,7 @@ module _ {p : Plan} (S : Sound p) where
       → ((u : ℕ) → k ≤ p .homes u → Q u → (x : ℕ) → x < p .size → block p v (p .homes u) x ≡ block p w (p .homes u) x)
       → (i : ℕ) → i < k → Only p Q k i → RightAt p (asBound p w) w i → RightAt p (asBound p v) v i
   stays-right Q w v k T₁ above i l (r, only) R x q =
-      T₁ i l (r, only) x (subst (λ m. x < m) (sym (S .sized .size)) q) ∙ R x q
+      T₁ i l (r, only) x (in-table S x q) ∙ R x q
       ∙ ap (λ f. f x) (mean-free (tableOf p) (formulaAt (nodesOf p) i) (asBound p w) (asBound p v) (λ u t. sym (as-bound-same p w v u (at u t))))
     where
       at : (u : ℕ) → T (free u (formulaAt (nodesOf p) i)) → (x : ℕ) → x < p .size → block p v (p .homes u) x ≡ block p w (p .homes u) x

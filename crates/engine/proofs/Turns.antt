@@ -26,7 +26,7 @@ use Rattle.engine.specs.declared.refresh.Binder.{Binder}
 use Rattle.engine.specs.Blocks.{block, env, Right}
 use Rattle.engine.specs.Moves.{Grown}
 use Rattle.engine.specs.Computing.{Ready, Refreshable, Refreshed, notAt, body, wider, Binds, Roundable, Rounded}
-use Rattle.engine.proofs.Frames.{apart, kept-block, kept-trans, filled-kept, filled-lower, wider-use, wider-mk, env-wider}
+use Rattle.engine.proofs.Frames.{apart, in-table, in-sets, kept-block, kept-trans, filled-kept, filled-lower, wider-use, wider-mk, env-wider}
 use Rattle.engine.proofs.Staying.{stays-right, filled-stayed, settled-filled}
 use Rattle.engine.proofs.Refreshing.{ready-above}
 use Rattle.engine.proofs.Plain.{binder-fits}
@@ -118,7 +118,7 @@ module _ {p : Plan} {w : List ℕ} {x : Binder} {act moved : ℕ} (R : Roundable
   module _ {y z : List ℕ} {change : ℕ} (T₁ : Refreshed p w y (x .node) act (wider act x))
       (D : Advanced y z (x .body * p .size) (x .node * p .size) (p .size) change) where
     size : (q : ℕ) → q < 2 ^ p .states → q < p .size
-    size q k = subst (λ m. q < m) (sym (B .ready .sound .sized .size)) k
+    size = in-table (B .ready .sound)
 
     lower : Right p ρ (wider act x) y (x .node)
     lower = subst (λ ρ. Right p ρ (wider act x) y (x .node)) (wider-env B) (T₁ .right)
@@ -147,8 +147,7 @@ module _ {p : Plan} {w : List ℕ} {x : Binder} {act moved : ℕ} (R : Roundable
       lower = λ i l h q k. filled-lower p (D .filled) i q l (size q k) ∙ lower i l h q k;
       stood = λ e q k. sym (last q) ∙ sym (D .stood e q (size q k)) ∙ sym (D .filled .inside q (size q k));
       stands = λ h. D .stands (λ q k.
-          let k′ = subst (λ m. q < m) (B .ready .sound .sized .size) k in
-          sym (D .filled .inside q k) ∙ sym (h q k′) ∙ sym (last q));
+          sym (D .filled .inside q k) ∙ sym (h q (in-sets (B .ready .sound) q k)) ∙ sym (last q));
       settled = settled-filled (B .ready .sound) act above (D .filled)
           (λ m i l (r, only). T₁ .settled (ready .mark) i l (r, λ u E. wider-keeps-one B u (only u E)));
       closed = λ e m i l only.

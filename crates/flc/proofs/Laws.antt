@@ -44,7 +44,7 @@ unfolding both
 both-self true = refl
 both-self false = refl
 
-either-swap : (a b : Bool) → either a b ≡ either b a
+pub either-swap : (a b : Bool) → either a b ≡ either b a
 unfolding either
 either-swap true true = refl
 either-swap true false = refl

@@ -41,7 +41,7 @@ sum-eq (suc k) f g h e i j =
     ] j
 
 -- digits as tests
-bit-rises : (a b : Bool) → (T a → T b) → bit a ≤ bit b
+pub bit-rises : (a b : Bool) → (T a → T b) → bit a ≤ bit b
 bit-rises true true h = omega arith
 bit-rises true false h = absurd (h tt)
 bit-rises false b h = omega arith
