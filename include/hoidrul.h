@@ -10,8 +10,8 @@
  * Threads. Nothing is kept from call to call and there is no global state: threads may call at once, each with areas
  * of its own. They may share a file that nobody writes.
  *
- * Stack. Every call fits in a thread with HOIDRUL_STACK bytes of stack. Threads of 16 KiB, the smallest that there
- * are, were enough in tests.
+ * Stack. Every call fits in a thread with HOIDRUL_STACK bytes of stack. Threads of 18 KiB were enough in tests, and
+ * threads of 17 KiB were not: judging took 13,336 bytes from its caller's frame, the other functions at most 5,392.
  *
  * Time. Judging can take hours: a binder takes up to n * 2^n rounds on n states, and nested binders of alternating
  * kinds multiply theirs. Only ending its thread or process stops a call. The other functions end within about a
