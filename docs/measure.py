@@ -1,6 +1,6 @@
 #!/usr/bin/env python3
 """Measures anew what docs/PERFORMANCE.md tells: builds the proved archive and the benchmark, runs it (some minutes), writes
-docs/ratios.tsv and docs/performance.tsv, fills the page's tables from them and draws the plot.
+docs/ratios.tsv, docs/groups.tsv and docs/performance.tsv, fills the page's tables from them and draws the plot.
 
     python3 docs/measure.py           everything
     python3 docs/measure.py tables    the page's tables and the plot alone, from the files that are there
@@ -69,6 +69,13 @@ def ratios():
     fill("plain", markdown(["Case", "n", "Proved", "Plain", "Percent"], percent))
 
 
+def groups():
+    """Rules of groups, each beside the same rule of single actions."""
+    head = ["n", "Actions in a group", "Kind 6", "Kind 13", "13 / 6", "Kind 7", "Kind 14", "14 / 7"]
+    rows = ([r["n"], r["group size"], shown(r["kind 6"]), shown(r["kind 13"]), r["13 / 6"], shown(r["kind 7"]), shown(r["kind 14"]), r["14 / 7"]] for r in read("groups.tsv"))
+    fill("groups", markdown(head, rows))
+
+
 def worst():
     table = read("performance.tsv")
     rows = [r for r in table if r["series"] == "64 nodes, no binder" and r["n"] == "16"]
@@ -96,7 +103,7 @@ def measure():
     before = os.getloadavg()[0]
     subprocess.run(["rt", "staticlib", "hoidrul"], cwd=root, check=True)
     subprocess.run(["cargo", "build", *CARGO], cwd=root, check=True)
-    for what, name in [("ratios", "ratios.tsv"), ("growth", "performance.tsv")]:
+    for what, name in [("ratios", "ratios.tsv"), ("groups", "groups.tsv"), ("growth", "performance.tsv")]:
         subprocess.run(["cargo", "run", *CARGO, "--", what, f"docs/{name}"], cwd=root, check=True)
     after = os.getloadavg()[0]
     fill("machine", [f"{os.cpu_count()} cores; load average {before:.1f} before the run and {after:.1f} after it, of which 1 is the run's own."])
@@ -108,6 +115,7 @@ if __name__ == "__main__":
     elif sys.argv[1:] != ["tables"]:
         sys.exit(__doc__)
     ratios()
+    groups()
     worst()
     deepest()
     plot.main()

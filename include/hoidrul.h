@@ -11,7 +11,7 @@
  * of its own. They may share a file that nobody writes.
  *
  * Stack. Every call fits in a thread with HOIDRUL_STACK bytes of stack. Threads of 18 KiB were enough in tests, and
- * threads of 17 KiB were not: judging took 13,336 bytes from its caller's frame, the other functions at most 5,392.
+ * threads of 17 KiB were not: judging took at most 13,336 bytes from its caller's frame, the other functions at most 5,392.
  *
  * Time. Judging can take hours: a binder takes up to n * 2^n rounds on n states, and nested binders of alternating
  * kinds multiply theirs. Only ending its thread or process stops a call. The other functions end within about a
@@ -33,7 +33,11 @@ extern "C" {
 /* Enough stack for a thread that calls, in bytes. */
 #define HOIDRUL_STACK 131072
 
-/* The sections of a case. */
+/* The sections of a case: a label byte a state; steps of three bytes (from, action, to); nodes of three bytes
+ * (kind, A, B) and the root's number. Kinds: 0 tt, 1 ff, 2 proposition A, 3 its complement, 4 variable A, 5 tau,
+ * 6 some step by action A leads into the set, 7 all such steps do, 8 A or B, 9 A and B, 10 A;B, 11 mu A.B, 12 nu A.B,
+ * 13 some step whose action is in the group A leads into the set, 14 all such steps do. Bit i of a group is action i,
+ * and every byte is a group; of the empty one 13 yields no state and 14 every state. An operand that is not used is 0. */
 #define HOIDRUL_LABELS 0
 #define HOIDRUL_STEPS 1
 #define HOIDRUL_RULE 2

@@ -10,8 +10,8 @@ use lib.Bits.{bitAnd}
 use lib.Dec.{T, eqb, eqb→eq, ltb→lt}
 use lib.ListN.{length, getD}
 use Rattle.flc.specs.Sets.{both, implies, forAll, forSome, has, setOf}
-use Rattle.flc.specs.Formula.{Table}
-use Rattle.flc.specs.Bisimulation.{actions, met, alike}
+use Rattle.flc.specs.Formula.{Table, actions}
+use Rattle.flc.specs.Bisimulation.{met, alike}
 use Rattle.flc.proofs.Tests.{bool-ext, both-left, both-right, both-mk, both-rises, implies-use, implies-mk, forAll-use, forAll-rises, forSome-rises}
 use Rattle.flc.proofs.Masks.{has-setOf, setOf-lt, setOf-ext, setOf-has}
 use Rattle.flc.proofs.Alikeness.{Acts, Within, matched, refine, refine-keeps, refine-stands, alike-bisim}

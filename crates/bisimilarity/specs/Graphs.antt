@@ -4,8 +4,7 @@ use mathlib.Core.Path.{_≡_}
 use lib.Dec.{ltb}
 use lib.ListN.{getD}
 use Rattle.flc.specs.Sets.{both, has}
-use Rattle.flc.specs.Formula.{Table}
-use Rattle.flc.specs.Bisimulation.{actions}
+use Rattle.flc.specs.Formula.{Table, actions}
 use Rattle.case_model.specs.Case.{Case, table}
 use Rattle.case_model.specs.Limits.{mostStates}
 use Rattle.bisimilarity.specs.declared.graph.Graph.{Graph}

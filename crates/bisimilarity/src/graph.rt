@@ -2,7 +2,7 @@
 ghost use mathlib.Core.Path.{_≡_};
 ghost use Prim.Native.Nat.{ℕ, _<_};
 ghost use lib.ListN.{getD};
-ghost use Rattle.flc.specs.Bisimulation.{actions};
+ghost use Rattle.flc.specs.Formula.{actions};
 ghost use Rattle.case_model.specs.Case.{read};
 ghost use Rattle.case_model.specs.Limits.{mostStates};
 ghost use Rattle.case_model.specs.Valid.{ValidTable};

@@ -3,7 +3,8 @@
 ghost use mathlib.Core.Path.{_≡_};
 ghost use Prim.Native.Nat.{_≤_, _<_};
 ghost use Rattle.flc.specs.Sets.{setOf};
-ghost use Rattle.flc.specs.Bisimulation.{actions, met, alike};
+ghost use Rattle.flc.specs.Bisimulation.{met, alike};
+ghost use Rattle.flc.specs.Formula.{actions};
 ghost use Rattle.case_model.specs.Limits.{mostStates};
 ghost use Rattle.bisimilarity.specs.Graphs.{tableOf, Sized};
 ghost use Rattle.bisimilarity.specs.Relations.{related, Rows, sameRows, metBy, kept, sameLabel};

@@ -1,6 +1,6 @@
 -- The examples of the table of refusals, rows 10 to 13, and small merges and rewrites, computed from the definitions.
 -- By computation: a slip in a row, in a law or in the renumbering makes one of these equations false.
-use Prim.Native.Nat.{ℕ}
+use Prim.Native.Nat.{ℕ, suc}
 use mathlib.Core.List.{List, [], _∷_, _++_}
 use mathlib.Core.Path.{_≡_, refl}
 use lib.ListN.{replicate, set}
@@ -15,7 +15,7 @@ use Rattle.case_model.specs.Kinds.{Triple, kinds, kindAt}
 use Rattle.case_model.specs.Rows.{lowest, rootClosed, refusals}
 use Rattle.case_model.specs.Replies.{answers, refuses}
 use Rattle.case_model.specs.Merging.{moved, movedSteps, inOrder, merge, merging}
-use Rattle.case_model.specs.Rewriting.{change, rewrite, rewriting}
+use Rattle.case_model.specs.Rewriting.{change, renamed, rewrite, rewriting}
 
 -- the rule of case F
 abbrev rule-F : List Triple
@@ -49,6 +49,17 @@ rewrites :
 unfolding rewriting change rewrite write packed refusals pairsHold chained section
     listOf lowest first forAll forSome both either rootClosed rule formulaAt lower nodeAt kindAt kinds free
 rewrites = (refl, refl, refl, refl, refl, refl, refl, refl)
+
+-- kinds 13 and 14 are carried as they are, before and behind the node that is rewritten and wherever numbers move; law 3 does not take them
+rewrites-groups :
+    (rewriting (of ((13, 3, 0) ∷ (14, 255, 0) ∷ (10, 0, 1) ∷ (10, 2, 0) ∷ (14, 3, 0) ∷ (8, 3, 4) ∷ []) 5) 4 3 99
+    ≡ answers (of ((13, 3, 0) ∷ (14, 255, 0) ∷ (10, 0, 1) ∷ (10, 1, 0) ∷ (10, 0, 3) ∷ (14, 3, 0) ∷ (8, 4, 5) ∷ []) 6))
+    × (renamed suc (13, 3, 0) ≡ (13, 3, 0))
+    × (renamed suc (14, 3, 0) ≡ (14, 3, 0))
+    × (rewriting (of ((13, 3, 0) ∷ (10, 0, 0) ∷ []) 1) 3 1 99 ≡ refuses 11 0)
+unfolding rewriting change rewrite write packed refusals pairsHold chained section
+    listOf lowest first forAll forSome both either rootClosed rule formulaAt lower nodeAt kindAt kinds free
+rewrites-groups = (refl, refl, refl, refl)
 
 -- rows 8 and 10, and two states with the same loop
 merges :

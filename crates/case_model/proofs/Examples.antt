@@ -63,6 +63,19 @@ unfolding write packed vetting refusals pairsHold chained section
     listOf lowest first forAll forSome both either rootClosed rule formulaAt lower nodeAt kindAt kinds free
 rows = (refl, refl, refl, refl, refl, refl, refl, refl, refl, refl, refl, refl, refl, refl)
 
+-- row 5, kinds 13 and 14: any group is right, the other operand is unused, and 15 is no kind. They bind no variable (0 is bound by node 9) and
+-- name no node (node 0 is a variable, which would be free in the root 5)
+groups :
+    (vetting (caseOf labels steps (set nodes 7 (13, 0, 0)) 9) 0 ≡ answers (record { states = 2; nodes = 10 }))
+    × (vetting (caseOf labels steps (set nodes 7 (14, 255, 0)) 9) 0 ≡ answers (record { states = 2; nodes = 10 }))
+    × (vetting (caseOf labels steps (set nodes 5 (14, 3, 0)) 5) 0 ≡ answers (record { states = 2; nodes = 10 }))
+    × (vetting (caseOf labels steps (set nodes 7 (13, 3, 1)) 9) 0 ≡ refuses 5 7)
+    × (vetting (caseOf labels steps (set nodes 7 (14, 3, 1)) 9) 0 ≡ refuses 5 7)
+    × (vetting (caseOf labels steps (set nodes 7 (15, 0, 0)) 9) 0 ≡ refuses 5 7)
+unfolding write packed vetting refusals pairsHold chained section
+    listOf lowest first forAll forSome both either rootClosed rule formulaAt lower nodeAt kindAt kinds free
+groups = (refl, refl, refl, refl, refl, refl)
+
 -- row 1: each section begins where the one before ends, and the last ends with the file.
 -- One state, no steps, τ; then a byte left between two sections, and one after the last
 chains :
@@ -78,7 +91,7 @@ rising :
     (vetting [] 3 ≡ refuses 1 0)
     × (vetting (caseOf [] ((0, 0, 2) ∷ []) nodes 9) 0 ≡ refuses 2 0)
     × (vetting (caseOf labels ((0, 8, 1) ∷ []) nodes 10) 0 ≡ refuses 3 0)
-    × (vetting (caseOf labels steps (set nodes 0 (13, 0, 0)) 10) 0 ≡ refuses 4 0)
+    × (vetting (caseOf labels steps (set nodes 0 (15, 0, 0)) 10) 0 ≡ refuses 4 0)
     × (vetting (caseOf labels steps (set (set nodes 4 (12, 0, 3)) 5 (6, 8, 0)) 9) 0 ≡ refuses 5 5)
     × (vetting (caseOf labels steps (set nodes 4 (12, 0, 3)) 1) 0 ≡ refuses 6 9)
     × (vetting (caseOf labels steps nodes 4) 3 ≡ refuses 7 0)

@@ -7,6 +7,7 @@ pub mod Filling
 pub mod Sections
 pub mod Codec
 pub mod KindLines
+pub mod ModalKinds
 pub mod Valid
 pub mod Steps
 pub mod Nodes

@@ -16,6 +16,8 @@ use Rattle.case_model.specs.Kinds.{Triple, unused, under, lowerNode, Kin
 use Rattle.case_model.specs.Limits.{variables}
 use Rattle.case_model.specs.Rows.{binds}
 use Rattle.case_model.specs.Rewriting.{firstRenamed, secondRenamed, renamed}
+-- checked first: a slip in a law is told as a false equation there
+use Rattle.case_model.proofs.EditExamples as examples
 use Rattle.case_model.proofs.Tests.{and-l, and-r}
 use Rattle.case_model.proofs.KindLines.{Line, constant, variable, pair, binder, line, kind-op, node-op}
 use Rattle.case_model.proofs.Nodes.{fits-names, holds-fits}

@@ -10,7 +10,7 @@ use native.Mathlib.Omega.{arith}
 use borrow.Author.Tests.{eqb-true, ltb-true, not-false, lt-ltb, le-ltb, eq-eqb, ne-eqb}
 use lib.Dec.{T, eqb, ltb, eqb→eq}
 use lib.ListN.{length}
-use Rattle.flc.specs.Bisimulation.{actions}
+use Rattle.flc.specs.Formula.{actions}
 use Rattle.flc.proofs.Tests.{both-left, both-right, either-use}
 use Rattle.case_model.specs.Limits.{mostStates}
 use Rattle.case_model.specs.Case.{Case, listed, at}

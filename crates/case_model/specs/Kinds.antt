@@ -1,14 +1,13 @@
 -- The table of kinds, the one place that knows their numbers: docs/SPECIFICATION.md, clauses 1.7 and 1.8.
 -- What a triple is otherwise goes by its node, which names no node, two nodes, or is a binder (Rattle.flc.specs.Nodes).
-use Prim.Native.Nat.{ℕ}
+use Prim.Native.Nat.{ℕ, _^_}
 use mathlib.Core.Bool.{Bool, true, false, _&&_}
 use mathlib.Core.List.{List, [], _∷_}
 use lib.Dec.{eqb, ltb}
 use lib.ListN.{length, getD}
-use Rattle.flc.specs.Formula.{Formula, Op, or, and, chop, atom, var, top, bottom, tau, prop, nprop, dia, box}
+use Rattle.flc.specs.Formula.{Formula, Op, or, and, chop, atom, var, top, bottom, tau, prop, nprop, modal, actions}
 use Rattle.flc.specs.Nodes.{Node, leaf, two, bind}
-use Rattle.flc.specs.Bisimulation.{actions}
-use Rattle.case_model.specs.Limits.{propositions, variables}
+use Rattle.case_model.specs.Limits.{propositions, variables, groups}
 
 -- a step (from, action, to), or a node (kind, A, B)
 abbrev pub Triple : Type 0
@@ -34,22 +33,31 @@ pub record Kind : Type 0 where
 abbrev pub leafKind : (ℕ → Formula) → Operand → Kind
 leafKind p x = record { node = λ a b. leaf (p a); first = x; second = unused }
 
+-- clauses 2.5 and 2.6: some step, or all, by an action of the group that the operand stands for
+abbrev pub modalKind : Bool → (ℕ → ℕ) → Operand → Kind
+modalKind d group x = leafKind (λ a. atom (modal d (group a))) x
+
+-- the group that has one action alone
+abbrev pub only : ℕ → ℕ
+only a = 2 ^ a
+
 abbrev pub twoKind : Op → Kind
 twoKind o = record { node = two o; first = lowerNode; second = lowerNode }
 
 abbrev pub binderKind : Bool → Kind
 binderKind d = record { node = bind d; first = under variables; second = lowerNode }
 
--- clause 1.7: kinds 0 to 12, in order
+-- clause 1.7: kinds 0 to 14, in order
 unfoldable pub kinds : List Kind
 kinds =
     leafKind (λ a. atom top) unused ∷ leafKind (λ a. atom bottom) unused
     ∷ leafKind (λ a. atom (prop a)) (under propositions) ∷ leafKind (λ a. atom (nprop a)) (under propositions)
     ∷ leafKind var (under variables)
     ∷ leafKind (λ a. atom tau) unused
-    ∷ leafKind (λ a. atom (dia a)) (under actions) ∷ leafKind (λ a. atom (box a)) (under actions)
+    ∷ modalKind true only (under actions) ∷ modalKind false only (under actions)
     ∷ twoKind or ∷ twoKind and ∷ twoKind chop
-    ∷ binderKind true ∷ binderKind false ∷ []
+    ∷ binderKind true ∷ binderKind false
+    ∷ modalKind true (λ a. a) (under groups) ∷ modalKind false (λ a. a) (under groups) ∷ []
 
 -- the numbers that the laws name: an operator's, τ's, and the last of those whose node is constant
 abbrev pub kindOf : Op → ℕ

@@ -5,7 +5,7 @@ use Prim.Native.Nat.{ℕ}
 abbrev pub sections : ℕ
 sections = 3
 
--- clauses 1.6 and 1.7: how many nodes, propositions and variables there can be
+-- clauses 1.6 and 1.7: how many nodes, propositions, variables and groups of actions there can be
 abbrev pub mostNodes : ℕ
 mostNodes = 64
 
@@ -14,6 +14,9 @@ propositions = 8
 
 abbrev pub variables : ℕ
 variables = 16
+
+abbrev pub groups : ℕ
+groups = 256
 
 -- what a judge may set for itself: the length that no file exceeds, and how many states there can be
 pub record Limits : Type 0 where

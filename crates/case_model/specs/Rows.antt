@@ -5,8 +5,7 @@ use mathlib.Core.List.{List}
 use lib.ListN.{length}
 use lib.Dec.{eqb, leb, ltb}
 use Rattle.flc.specs.Sets.{forAll, forSome, first}
-use Rattle.flc.specs.Formula.{free}
-use Rattle.flc.specs.Bisimulation.{actions}
+use Rattle.flc.specs.Formula.{free, actions}
 use Rattle.case_model.specs.Bytes.{size, pairsHold}
 use Rattle.case_model.specs.Limits.{Limits, mostNodes, variables}
 use Rattle.case_model.specs.Kinds.{Triple, nodeOf, nodeHolds, isBinder}

@@ -10,7 +10,7 @@ use borrow.Author.Tests.{lt-ltb, le-ltb}
 use lib.ListN.{length, getD, List·getD-eq-default}
 use lib.Pow.{pow-mono}
 use Rattle.flc.specs.Sets.{both, has, setOf}
-use Rattle.flc.specs.Bisimulation.{actions}
+use Rattle.flc.specs.Formula.{actions}
 use Rattle.flc.proofs.Masks.{has-setOf, has-beyond, setOf-lt, setOf-ext, setOf-has, setOf-none, set-ext}
 use Rattle.case_model.specs.Limits.{mostStates, propositions}
 use Rattle.case_model.specs.Case as model

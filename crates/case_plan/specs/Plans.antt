@@ -9,10 +9,9 @@ use lib.Dec.{T, ltb}
 use lib.ListN.{getD, length}
 use Rattle.flc.specs.Sets.{both, has, setOf}
 use Rattle.flc.specs.Functions.{Fun}
-use Rattle.flc.specs.Formula.{Table, Env, mean, free}
+use Rattle.flc.specs.Formula.{Table, Env, mean, free, actions}
 use Rattle.flc.specs.Nodes.{Node, bind, formulaAt}
 use Rattle.flc.specs.Order.{Sub}
-use Rattle.flc.specs.Bisimulation.{actions}
 use Rattle.case_model.specs.Limits.{mostNodes, mostStates, propositions, variables}
 use Rattle.case_model.specs.Kinds.{Triple, nodeOf, nodeHolds}
 use Rattle.case_model.specs.Case as model

@@ -1,7 +1,10 @@
 -- What a triple is by the number that was compared, a line of the table or past its end; and by the kind that was found.
 -- Equations of the table's lines.
-use Prim.Native.Nat.{ℕ, zero, suc}
-use mathlib.Core.Path.{_≡_, refl, sym, ap, _∙_}
+use Prim.Native.Nat.{ℕ, suc, _≤_}
+use mathlib.Core.Path.{_≡_, sym, ap, _∙_}
+use native.Mathlib.Decide.{ℕ-discrete}
+use native.Mathlib.Omega.{arith}
+use lib.ListN.{length, List·getD-eq-default}
 use Rattle.flc.specs.Formula.{atom, bottom}
 use Rattle.flc.specs.Nodes.{Node}
 use Rattle.case_model.specs.Kinds as table
@@ -14,24 +17,13 @@ pub known : {n k : ℕ} → n ≡ k → kindAt k ≡ kindAt n
 known e = ap kindAt (sym e)
 
 -- it is none of the table's
-pub unknown : (k : ℕ) → (k ≡ 0 → ⊥) → (k ≡ 1 → ⊥) → (k ≡ 2 → ⊥) → (k ≡ 3 → ⊥) → (k ≡ 4 → ⊥) → (k ≡ 5 → ⊥) → (k ≡ 6 → ⊥)
-    → (k ≡ 7 → ⊥) → (k ≡ 8 → ⊥) → (k ≡ 9 → ⊥) → (k ≡ 10 → ⊥) → (k ≡ 11 → ⊥) → (k ≡ 12 → ⊥)
-    → leafKind (λ a. atom bottom) unused ≡ kindAt k
-unfolding kindAt kinds
-unknown zero h0 h1 h2 h3 h4 h5 h6 h7 h8 h9 h10 h11 h12 = absurd (h0 refl)
-unknown (suc zero) h0 h1 h2 h3 h4 h5 h6 h7 h8 h9 h10 h11 h12 = absurd (h1 refl)
-unknown (suc (suc zero)) h0 h1 h2 h3 h4 h5 h6 h7 h8 h9 h10 h11 h12 = absurd (h2 refl)
-unknown (suc (suc (suc zero))) h0 h1 h2 h3 h4 h5 h6 h7 h8 h9 h10 h11 h12 = absurd (h3 refl)
-unknown (suc (suc (suc (suc zero)))) h0 h1 h2 h3 h4 h5 h6 h7 h8 h9 h10 h11 h12 = absurd (h4 refl)
-unknown (suc (suc (suc (suc (suc zero))))) h0 h1 h2 h3 h4 h5 h6 h7 h8 h9 h10 h11 h12 = absurd (h5 refl)
-unknown (suc (suc (suc (suc (suc (suc zero)))))) h0 h1 h2 h3 h4 h5 h6 h7 h8 h9 h10 h11 h12 = absurd (h6 refl)
-unknown (suc (suc (suc (suc (suc (suc (suc zero))))))) h0 h1 h2 h3 h4 h5 h6 h7 h8 h9 h10 h11 h12 = absurd (h7 refl)
-unknown (suc (suc (suc (suc (suc (suc (suc (suc zero)))))))) h0 h1 h2 h3 h4 h5 h6 h7 h8 h9 h10 h11 h12 = absurd (h8 refl)
-unknown (suc (suc (suc (suc (suc (suc (suc (suc (suc zero))))))))) h0 h1 h2 h3 h4 h5 h6 h7 h8 h9 h10 h11 h12 = absurd (h9 refl)
-unknown (suc (suc (suc (suc (suc (suc (suc (suc (suc (suc zero)))))))))) h0 h1 h2 h3 h4 h5 h6 h7 h8 h9 h10 h11 h12 = absurd (h10 refl)
-unknown (suc (suc (suc (suc (suc (suc (suc (suc (suc (suc (suc zero))))))))))) h0 h1 h2 h3 h4 h5 h6 h7 h8 h9 h10 h11 h12 = absurd (h11 refl)
-unknown (suc (suc (suc (suc (suc (suc (suc (suc (suc (suc (suc (suc zero)))))))))))) h0 h1 h2 h3 h4 h5 h6 h7 h8 h9 h10 h11 h12 = absurd (h12 refl)
-unknown (suc (suc (suc (suc (suc (suc (suc (suc (suc (suc (suc (suc (suc k))))))))))))) h0 h1 h2 h3 h4 h5 h6 h7 h8 h9 h10 h11 h12 = refl
+pub unknown : (k : ℕ) → length kinds ≤ k → leafKind (λ a. atom bottom) unused ≡ kindAt k
+unfolding kindAt
+unknown k h = sym (List·getD-eq-default kinds _ h)
+
+-- it was compared with one number more
+pub past : {k n : ℕ} → n ≤ k → (k ≡ n → ⊥) → suc n ≤ k
+past {k} {n} l h = elim (ℕ-discrete k n) [ yes e ↦ absurd (h e) | no _ ↦ omega arith ]
 
 -- what is made of the node of a triple, by the kind that was found
 pub by-kind {ℓ} : {A : Type ℓ} (t : Triple) (f : Node → A) {k k′ : Kind} → k ≡ k′ → lineOf k ≡ kindAt (t .0)

@@ -1,10 +1,9 @@
 -- The line of the table of kinds that each kind of the code is: docs/SPECIFICATION.md, clause 1.7.
 use Prim.Native.Nat.{ℕ}
-use Rattle.flc.specs.Formula.{Atom, Op, or, and, chop, atom, var, top, bottom, tau, prop, nprop, dia, box}
-use Rattle.flc.specs.Bisimulation.{actions}
-use Rattle.case_model.specs.Limits.{propositions, variables}
+use Rattle.flc.specs.Formula.{Atom, Op, or, and, chop, atom, var, top, bottom, tau, prop, nprop, modal, actions}
+use Rattle.case_model.specs.Limits.{propositions, variables, groups}
 use Rattle.case_model.specs.Kinds as table
-use Rattle.case_model.specs.Kinds.{Operand, unused, under, leafKind, twoKind, binderKind}
+use Rattle.case_model.specs.Kinds.{Operand, unused, under, leafKind, only, twoKind, binderKind}
 use Rattle.case_reader.specs.declared.kinds.Atom as code
 use Rattle.case_reader.specs.declared.kinds.Atom.the-variants as atoms
 use Rattle.case_reader.specs.declared.kinds.Operator.{Operator}
@@ -18,8 +17,8 @@ atomWith atoms.Bottom a = bottom
 atomWith atoms.Proposition a = prop a
 atomWith atoms.Complement a = nprop a
 atomWith atoms.Tau a = tau
-atomWith atoms.Diamond a = dia a
-atomWith atoms.Boxed a = box a
+atomWith (atoms.Action d) a = modal d (only a)
+atomWith (atoms.Group d) a = modal d a
 
 abbrev pub opOf : Operator → Op
 opOf operators.Or = or
@@ -33,8 +32,8 @@ operandOf atoms.Bottom = unused
 operandOf atoms.Proposition = under propositions
 operandOf atoms.Complement = under propositions
 operandOf atoms.Tau = unused
-operandOf atoms.Diamond = under actions
-operandOf atoms.Boxed = under actions
+operandOf (atoms.Action d) = under actions
+operandOf (atoms.Group d) = under groups
 
 abbrev pub lineOf : Kind → table.Kind
 lineOf (kinds.Atom x) = leafKind (λ a. atom (atomWith x a)) (operandOf x)

@@ -7,14 +7,15 @@ ghost use Rattle.case_reader.specs.Read.{triple};
 ghost use Rattle.case_reader.specs.NodeKinds.{operandOf, lineOf};
 use crate::parts::Triple;
 
+// What is constant, τ; and the modalities, of some step if true, else of all steps: those of one action and those of a group of actions.
 pub enum Atom {
     Top,
     Bottom,
     Proposition,
     Complement,
     Tau,
-    Diamond,
-    Boxed,
+    Action(bool),
+    Group(bool),
 }
 
 pub enum Operator {
@@ -43,14 +44,16 @@ impl Kind {
 
     pub const CHOP: usize = 10;
 
-    pub const COUNT: usize = 13;
+    pub const COUNT: usize = 15;
 
-    // How many propositions, variables and actions an operand can name.
+    // How many propositions, variables, actions and groups of actions an operand can name.
     pub const PROPOSITIONS: usize = 8;
 
     pub const VARIABLES: usize = 16;
 
     pub const ACTIONS: usize = 8;
+
+    pub const GROUPS: usize = 256;
 }
 
 // The line of the table that a triple has; past the table's end, a constant.
@@ -65,13 +68,15 @@ pub fn kind_of(t: Triple) -> Kind
         3 => Kind::Atom(Atom::Complement),
         4 => Kind::Variable,
         5 => Kind::Atom(Atom::Tau),
-        6 => Kind::Atom(Atom::Diamond),
-        7 => Kind::Atom(Atom::Boxed),
+        6 => Kind::Atom(Atom::Action(true)),
+        7 => Kind::Atom(Atom::Action(false)),
         8 => Kind::Two(Operator::Or),
         9 => Kind::Two(Operator::And),
         10 => Kind::Two(Operator::Chop),
         11 => Kind::Binder(true),
         12 => Kind::Binder(false),
+        13 => Kind::Atom(Atom::Group(true)),
+        14 => Kind::Atom(Atom::Group(false)),
         _ => Kind::Atom(Atom::Bottom),
     }
 }
@@ -98,8 +103,8 @@ fn atom_fits(atom: Atom, a: usize) -> bool
         Atom::Proposition => a < Kind::PROPOSITIONS,
         Atom::Complement => a < Kind::PROPOSITIONS,
         Atom::Tau => a == 0,
-        Atom::Diamond => a < Kind::ACTIONS,
-        Atom::Boxed => a < Kind::ACTIONS,
+        Atom::Action(_) => a < Kind::ACTIONS,
+        Atom::Group(_) => a < Kind::GROUPS,
     }
 }
 

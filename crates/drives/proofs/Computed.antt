@@ -5,8 +5,8 @@ use mathlib.Core.Bool.{Bool, true, false}
 use mathlib.Core.List.{List, [], _∷_}
 use Prim.Native.Nat.{ℕ, _*_, _^_, _<_}
 use lib.Dec.{T, eqb, ltb, eqb→eq, ltb→lt}
-use Rattle.flc.specs.Sets.{both, either, implies, forAll, forSome, first, has, setOf}
-use Rattle.flc.specs.Formula.{Table, meanAtom, free}
+use Rattle.flc.specs.Sets.{both, either, implies, forAll, forSome, among, first, has, setOf}
+use Rattle.flc.specs.Formula.{Table, stepsBy, meanAtom, free}
 use Rattle.flc.specs.Nodes.{Node, lower, formulaAt}
 use Rattle.flc.proofs.Tests.{both-left, both-right}
 use Rattle.flc.proofs.Packing.{look, pack, packed}
@@ -83,7 +83,7 @@ passes d t =
 
 -- every drive of the table passes
 pub drives-right : Each Right drives
-unfolding drives test isSound each takes look pack packed loop set start onMasks eval runNode run lower meanAtom
-    both either implies forAll forSome first has setOf free formulaAt listOf chained pairsHold section listed table
+unfolding drives test isSound each takes look pack packed loop set start onMasks eval runNode run lower meanAtom stepsBy
+    both either implies forAll forSome among first has setOf free formulaAt listOf chained pairsHold section listed table
     kinds kindAt nodeAt rule lowest rootClosed refusals
 drives-right = each-use test Right passes drives tt

@@ -34,6 +34,20 @@ pub record Shows (d : Drive) (c : Case) : Type 0 where
 abbrev pub Right : Drive → Type 0
 Right d = Shows d (read (d .file))
 
+-- a single node of kind k with operand a, on two states: 0 steps to itself by action 0 and to 1 by action 7, and 1 steps to 0 by action 3
+abbrev pub onTwo : ℕ → ℕ → List (ℕ × ℕ) → Drive
+onTwo k a v = record {
+  file =
+      12 ∷ 0 ∷ 2 ∷ 0 ∷ 14 ∷ 0 ∷ 9 ∷ 0 ∷ 23 ∷ 0 ∷ 4 ∷ 0
+      ∷ 0 ∷ 0
+      ∷ 0 ∷ 0 ∷ 0 ∷ 0 ∷ 7 ∷ 1 ∷ 1 ∷ 3 ∷ 0
+      ∷ k ∷ a ∷ 0
+      ∷ 0 ∷ [];
+  rounds = 0 ∷ [];
+  values = v;
+  approximants = [];
+}
+
 unfoldable pub drives : List Drive
 drives =
     -- case F, the rule μY.⟨1⟩ or ⟨0⟩;νZ.Y;Z;Y, after 2 rounds: {0, 1} of all states, {0} of none
@@ -153,4 +167,13 @@ drives =
       values = (7, 1) ∷ [];
       approximants = [];
     } ∷
+    -- the empty group: under 13 no state and under 14 every state, of each set, though there are steps
+    onTwo 13 0 ((0, 0) ∷ (1, 0) ∷ (2, 0) ∷ (3, 0) ∷ []) ∷
+    onTwo 14 0 ((0, 3) ∷ (1, 3) ∷ (2, 3) ∷ (3, 3) ∷ []) ∷
+    -- the group {0, 7}: state 0 steps by it to 0 and to 1, state 1 has no such step
+    onTwo 13 129 ((0, 0) ∷ (1, 1) ∷ (2, 1) ∷ (3, 1) ∷ []) ∷
+    onTwo 14 129 ((0, 2) ∷ (1, 2) ∷ (2, 2) ∷ (3, 3) ∷ []) ∷
+    -- the group {7} under 13, and action 7 under 6: the same of each set
+    onTwo 13 128 ((0, 0) ∷ (1, 0) ∷ (2, 1) ∷ (3, 1) ∷ []) ∷
+    onTwo 6 7 ((0, 0) ∷ (1, 0) ∷ (2, 1) ∷ (3, 1) ∷ []) ∷
     []

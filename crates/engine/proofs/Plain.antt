@@ -71,8 +71,8 @@ module _ {p : Plan} {w : List ℕ} {j : ℕ} (F : Fillable p w j) where
         any atoms.Proposition i j a = refl
         any atoms.Complement i j a = refl
         any atoms.Tau i j a = refl
-        any atoms.Diamond i j a = refl
-        any atoms.Boxed i j a = refl
+        any (atoms.Action d) i j a = refl
+        any (atoms.Group d) i j a = refl
 
     pub atom-done : {x : Atom} → k ≡ kind.Atom x → {v : List ℕ}
         → Filled w v (j * p .size) (p .size) (meanAtom (tableOf p) (atomWith x (t .1))) → NodeFilled p w v j

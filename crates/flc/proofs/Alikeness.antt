@@ -6,8 +6,8 @@ use Prim.Native.Nat.{ℕ, _^_, _<_}
 use lib.Dec.{T, eqb, eqb→eq, eqb-refl}
 use Rattle.flc.specs.Sets.{both, forSome, has, setOf}
 use Rattle.flc.specs.Functions.{Fun}
-use Rattle.flc.specs.Formula.{Table}
-use Rattle.flc.specs.Bisimulation.{actions, met, bisimulation, alike}
+use Rattle.flc.specs.Formula.{Table, actions}
+use Rattle.flc.specs.Bisimulation.{met, bisimulation, alike}
 use Rattle.flc.proofs.Tests.{both-left, both-right, both-mk, implies-use, implies-mk, forAll-use, forAll-mk, forSome-use, forSome-mk}
 use Rattle.flc.proofs.Masks.{has-setOf, setOf-lt}
 use Rattle.flc.proofs.Order.{cut, cut-at, forSomeFun-use, forSomeFun-mk}

@@ -4,15 +4,16 @@ use mathlib.Core.Path.{_≡_, refl}
 use mathlib.Core.Bool.{Bool, true, false, not}
 use Prim.Native.Nat.{ℕ, zero, suc, _-_}
 use lib.Dec.{eqb}
-use Rattle.flc.specs.Sets.{both, either, implies, forAll, forSome, first, has, setOf}
+use Rattle.flc.specs.Sets.{both, either, implies, forAll, forSome, among, first, has, setOf}
 use Rattle.flc.specs.Functions.{contained, below, monotone, agree, forAllFun, forSomeFun, meet, join, approximant, rounds}
-use Rattle.flc.specs.Formula.{Table, top, bottom, tau, prop, nprop, dia, box, or, and, chop, Formula, atom, var, op, fix, meanAtom, put, mean, none, free}
+use Rattle.flc.specs.Formula.{Table, top, bottom, tau, prop, nprop, modal, or, and, chop, Formula, atom, var, op, fix}
+use Rattle.flc.specs.Formula.{stepsBy, meanAtom, put, mean, none, free}
 use Rattle.flc.specs.Nodes.{Node, leaf, bind, lower, formulaAt, roundsOf, roundsAt}
 use Rattle.flc.specs.Bisimulation.{met, bisimulation, alike}
 
 -- what a closed rule gives at the set x
 value : Table → Formula → ℕ → ℕ
-unfolding mean meanAtom put none meet join forAllFun forSomeFun monotone below contained has setOf forAll forSome both either implies
+unfolding mean meanAtom stepsBy among put none meet join forAllFun forSomeFun monotone below contained has setOf forAll forSome both either implies
 value L p x = mean L p none x
 
 -- one state, no steps
@@ -29,29 +30,56 @@ split : Table
 unfolding both
 split = record { n = 3; label = λ s. s; step = λ s a t. both (both (eqb s 0) (eqb a 0)) (not (eqb t 0)) }
 
+-- two states; from 0 a step by action 0 to 0 and one by action 7 to 1
+turn : Table
+unfolding both either
+turn = record { n = 2; label = λ s. 0; step = λ s a t. both (eqb s 0) (either (both (eqb a 0) (eqb t 0)) (both (eqb a 7) (eqb t 1))) }
+
 -- ---- atoms
 
 -- without an a-step [a] holds and ⟨a⟩ does not
-box-no-step : value still (atom (box 0)) 0 ≡ 1
+box-no-step : value still (atom (modal false 1)) 0 ≡ 1
 unfolding value still
 box-no-step = refl
 
-dia-no-step : value still (atom (dia 0)) 1 ≡ 0
+dia-no-step : value still (atom (modal true 1)) 1 ≡ 0
 unfolding value still
 dia-no-step = refl
 
 -- of two steps one goes into X: ⟨a⟩ holds in state 0 and [a] does not
-dia-one-of-two : value fork (atom (dia 0)) 2 ≡ 1
+dia-one-of-two : value fork (atom (modal true 1)) 2 ≡ 1
 unfolding value fork
 dia-one-of-two = refl
 
-box-one-of-two : value fork (atom (box 0)) 2 ≡ 2
+box-one-of-two : value fork (atom (modal false 1)) 2 ≡ 2
 unfolding value fork
 box-one-of-two = refl
 
-other-action : value fork (atom (dia 1)) 3 ≡ 0
+other-action : value fork (atom (modal true 2)) 3 ≡ 0
 unfolding value fork
 other-action = refl
+
+-- the group {0, 7}: one of its steps goes into X; that of action 7 alone: its only step does
+group-one-of-two : value turn (atom (modal true 129)) 2 ≡ 1
+unfolding value turn
+group-one-of-two = refl
+
+group-not-both : value turn (atom (modal false 129)) 2 ≡ 2
+unfolding value turn
+group-not-both = refl
+
+group-last-action : value turn (atom (modal true 128)) 2 ≡ 1
+unfolding value turn
+group-last-action = refl
+
+-- the empty group has no step, whatever steps there are
+empty-group-some : value turn (atom (modal true 0)) 3 ≡ 0
+unfolding value turn
+empty-group-some = refl
+
+empty-group-all : value turn (atom (modal false 0)) 0 ≡ 3
+unfolding value turn
+empty-group-all = refl
 
 tt-all : value fork (atom top) 0 ≡ 3
 unfolding value fork
@@ -74,29 +102,29 @@ unfolding value fork
 complement = refl
 
 -- ---- or, and, chop
-union : value fork (op or (atom (prop 0)) (atom (dia 0))) 2 ≡ 3
+union : value fork (op or (atom (prop 0)) (atom (modal true 1))) 2 ≡ 3
 unfolding value fork
 union = refl
 
-intersection : value fork (op and (atom (prop 0)) (atom (dia 0))) 2 ≡ 0
+intersection : value fork (op and (atom (prop 0)) (atom (modal true 1))) 2 ≡ 0
 unfolding value fork
 intersection = refl
 
 -- ⟨0⟩;p0 is not p0;⟨0⟩
-chop-one-way : value fork (op chop (atom (dia 0)) (atom (prop 0))) 0 ≡ 1
+chop-one-way : value fork (op chop (atom (modal true 1)) (atom (prop 0))) 0 ≡ 1
 unfolding value fork
 chop-one-way = refl
 
-chop-other-way : value fork (op chop (atom (prop 0)) (atom (dia 0))) 0 ≡ 2
+chop-other-way : value fork (op chop (atom (prop 0)) (atom (modal true 1))) 0 ≡ 2
 unfolding value fork
 chop-other-way = refl
 
 -- chop does not distribute on the right
-chop-of-and : value split (op chop (atom (dia 0)) (op and (atom (prop 0)) (atom (prop 1)))) 7 ≡ 0
+chop-of-and : value split (op chop (atom (modal true 1)) (op and (atom (prop 0)) (atom (prop 1)))) 7 ≡ 0
 unfolding value split
 chop-of-and = refl
 
-and-of-chops : value split (op and (op chop (atom (dia 0)) (atom (prop 0))) (op chop (atom (dia 0)) (atom (prop 1)))) 7 ≡ 1
+and-of-chops : value split (op and (op chop (atom (modal true 1)) (atom (prop 0))) (op chop (atom (modal true 1)) (atom (prop 1)))) 7 ≡ 1
 unfolding value split
 and-of-chops = refl
 
@@ -112,12 +140,12 @@ unfolding value still
 nu-self = refl
 
 -- μZ. τ or ⟨0⟩;Z, on two states: some way leads into X
-mu-reach : value fork (fix true 0 (op or (atom tau) (op chop (atom (dia 0)) (var 0)))) 2 ≡ 3
+mu-reach : value fork (fix true 0 (op or (atom tau) (op chop (atom (modal true 1)) (var 0)))) 2 ≡ 3
 unfolding value fork
 mu-reach = refl
 
 -- νZ. τ and ⟨0⟩;Z, on two states: a way that never leaves X
-nu-stay : value fork (fix false 0 (op and (atom tau) (op chop (atom (dia 0)) (var 0)))) 3 ≡ 1
+nu-stay : value fork (fix false 0 (op and (atom tau) (op chop (atom (modal true 1)) (var 0)))) 3 ≡ 1
 unfolding value fork
 nu-stay = refl
 

@@ -1,13 +1,14 @@
 -- Rules cannot tell apart what a bisimulation relates: it takes corresponding sets to corresponding sets.
 -- By induction on the rule; for a binder by induction on the round, since both tables have come to their fixed points late enough.
 use mathlib.Core.Path.{_≡_, refl, sym, ap, ap₂, _∙_, subst, subst₂}
-use mathlib.Core.Bool.{Bool, not}
+use mathlib.Core.Bool.{Bool, true, false, not}
 use Prim.Native.Nat.{ℕ, zero, suc, _+_, _*_, _^_, _<_}
 use native.Mathlib.Omega.{arith}
 use lib.Dec.{T}
-use Rattle.flc.specs.Sets.{both, either, implies, forAll, forSome, has, setOf}
+use Rattle.flc.specs.Sets.{both, either, among, has, setOf}
 use Rattle.flc.specs.Functions.{Fun, approximant}
-use Rattle.flc.specs.Formula.{Table, Atom, top, bottom, tau, prop, nprop, dia, box, or, and, chop, Formula, atom, var, op, fix, meanAtom, Env, put, mean}
+use Rattle.flc.specs.Formula.{Table, Atom, top, bottom, tau, prop, nprop, modal, or, and, chop, Formula, atom, var, op, fix, Env, put}
+use Rattle.flc.specs.Formula.{actions, stepsBy, meanAtom, mean}
 use Rattle.flc.proofs.Tests.{bool-ext, both-left, both-right, both-mk, implies-use, implies-mk, forAll-use, forAll-mk, forSome-use, forSome-mk}
 use Rattle.flc.proofs.Masks.{has-setOf}
 use Rattle.flc.specs.Order.{Agree, GoodEnv}
@@ -38,20 +39,27 @@ module _ (L M : Table) (R : ℕ → ℕ → Type 0) where
   abbrev pub Rel : Fun → Fun → Type 0
   Rel f g = (x y : ℕ) → x < 2 ^ L .n → y < 2 ^ M .n → Corr x y → Corr (f x) (g y)
 
--- ---- one step: what goes into x on one side goes into y on the other
-module _ (L M : Table) (R : ℕ → ℕ → Type 0) (s t a x y : ℕ) where
-  dia-kept : Met L M R s t → Corr L M R x y
-      → T (forSome (L .n) (λ s′. both (L .step s a s′) (has x s′))) → T (forSome (M .n) (λ t′. both (M .step t a t′) (has y t′)))
-  dia-kept m c u =
-      let (s′, k, e) = forSome-use (L .n) _ u in
-      let (t′, l, w, r) = m a s′ k (both-left _ _ e) in
-      forSome-mk (M .n) _ t′ l (both-mk _ _ w (subst T (c s′ t′ k l r) (both-right _ _ e)))
+-- ---- the steps of a group
+-- a step is met by one of the same group
+met-by : (L M : Table) (R : ℕ → ℕ → Type 0) (s t g : ℕ) → Met L M R s t
+    → (s′ : ℕ) → s′ < L .n → T (stepsBy L g s s′) → (t′ : ℕ) × (t′ < M .n) × T (stepsBy M g t t′) × R s′ t′
+unfolding stepsBy
+met-by L M R s t g m s′ k u =
+    let (a, i, e) = forSome-use actions _ u in
+    let (t′, l, w, r) = m a s′ k (both-right _ _ e) in
+    (t′, l, forSome-mk actions _ a i (both-mk _ _ (both-left _ _ e) w), r)
 
-  box-kept : Met M L (λ t s. R s t) t s → Corr L M R x y
-      → T (forAll (L .n) (λ s′. implies (L .step s a s′) (has x s′))) → T (forAll (M .n) (λ t′. implies (M .step t a t′) (has y t′)))
-  box-kept m c u = forAll-mk (M .n) _ (λ t′ l. implies-mk _ _ (λ e.
-      let (s′, k, w, r) = m a t′ l e in
-      subst T (c s′ t′ k l r) (implies-use _ _ (forAll-use (L .n) _ u s′ k) w)))
+-- what goes into x on one side goes into y on the other
+modal-kept : (d : Bool) (L M : Table) (R : ℕ → ℕ → Type 0) (s t g x y : ℕ) → Met L M R s t → Met M L (λ t s. R s t) t s → Corr L M R x y
+    → T (among d (L .n) (stepsBy L g s) (has x)) → T (among d (M .n) (stepsBy M g t) (has y))
+unfolding among
+modal-kept true L M R s t g x y forth back c u =
+    let (s′, k, e) = forSome-use (L .n) _ u in
+    let (t′, l, w, r) = met-by L M R s t g forth s′ k (both-left _ _ e) in
+    forSome-mk (M .n) _ t′ l (both-mk _ _ w (subst T (c s′ t′ k l r) (both-right _ _ e)))
+modal-kept false L M R s t g x y forth back c u = forAll-mk (M .n) _ (λ t′ l. implies-mk _ _ (λ e.
+    let (s′, k, w, r) = met-by M L (λ t s. R s t) t s g back t′ l e in
+    subst T (c s′ t′ k l r) (implies-use _ _ (forAll-use (L .n) _ u s′ k) w)))
 
 -- ---- rules
 module _ (L M : Table) (R : ℕ → ℕ → Type 0) where
@@ -72,12 +80,11 @@ module _ (L M : Table) (R : ℕ → ℕ → Type 0) where
     atom-kept (prop a) x y i j c = corr-setOf _ _ (λ s t k l r. ap (λ z. has z a) (B s t k l r .labels))
     atom-kept (nprop a) x y i j c = corr-setOf _ _ (λ s t k l r. ap (λ z. not (has z a)) (B s t k l r .labels))
     atom-kept tau x y i j c = c
-    atom-kept (dia a) x y i j c = corr-setOf _ _ (λ s t k l r. bool-ext _ _
-        (dia-kept L M R s t a x y (B s t k l r .forth) c)
-        (dia-kept M L (λ t s. R s t) t s a y x (B s t k l r .back) (λ t s l k r. sym (c s t k l r))))
-    atom-kept (box a) x y i j c = corr-setOf _ _ (λ s t k l r. bool-ext _ _
-        (box-kept L M R s t a x y (B s t k l r .back) c)
-        (box-kept M L (λ t s. R s t) t s a y x (B s t k l r .forth) (λ t s l k r. sym (c s t k l r))))
+    atom-kept (modal d g) x y i j c = corr-setOf _ _ (λ s t k l r.
+        let m = B s t k l r in
+        bool-ext _ _
+        (modal-kept d L M R s t g x y (m .forth) (m .back) c)
+        (modal-kept d M L (λ t s. R s t) t s g y x (m .back) (m .forth) (λ t s l k r. sym (c s t k l r))))
 
     -- meanings that do so if the functions of the variables do
     abbrev Kept : (Env → Fun) → (Env → Fun) → Type 0

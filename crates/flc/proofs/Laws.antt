@@ -5,7 +5,7 @@ use mathlib.Core.Logic.{inl, inr}
 use mathlib.Core.Bool.{Bool, true, false}
 use Prim.Native.Nat.{ℕ, _^_, _<_}
 use Rattle.flc.specs.Sets.{both, either, has, setOf}
-use Rattle.flc.specs.Formula.{Table, Atom, top, bottom, tau, prop, nprop, dia, box, Op, or, and, chop, Formula, atom, op, fix, meanAtom, Env, put, mean}
+use Rattle.flc.specs.Formula.{Table, Atom, top, bottom, tau, prop, nprop, modal, Op, or, and, chop, Formula, atom, op, fix, meanAtom, Env, put, mean}
 use Rattle.flc.specs.Nodes.{Node, leaf, two, bind, tree, Names}
 use Rattle.flc.proofs.Masks.{setOf-ext, setOf-has}
 use Rattle.flc.proofs.Order.{below-antisym, agree-below}
@@ -24,8 +24,7 @@ Constant bottom = Unit {0}
 Constant (prop i) = Unit {0}
 Constant (nprop i) = Unit {0}
 Constant tau = ⊥
-Constant (dia a) = ⊥
-Constant (box a) = ⊥
+Constant (modal d g) = ⊥
 
 -- or and and
 abbrev pub Pointwise : Op → Type 0
@@ -89,8 +88,7 @@ module _ (L : Table) where
   law-3 (prop a) c p ρ R x i = refl
   law-3 (nprop a) c p ρ R x i = refl
   law-3 tau c p ρ R x i = absurd c
-  law-3 (dia a) c p ρ R x i = absurd c
-  law-3 (box a) c p ρ R x i = absurd c
+  law-3 (modal d g) c p ρ R x i = absurd c
 
   -- law 4: (A;B);C = A;(B;C); from right to left it is law 5
   pub law-4 : (p q r : Formula) → Same L (op chop (op chop p q) r) (op chop p (op chop q r))

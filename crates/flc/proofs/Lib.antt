@@ -8,6 +8,7 @@ pub mod Rounds
 pub mod Meanings
 pub mod Owning
 pub mod Unfolding
+pub mod Groups
 pub mod Laws
 pub mod Invariance
 pub mod Alikeness

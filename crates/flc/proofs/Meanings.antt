@@ -9,9 +9,9 @@ use lib.Pow.{pow-pos}
 use lib.Bits.{bitOr, bitAnd}
 use Rattle.flc.specs.Sets.{both, either, has, setOf}
 use Rattle.flc.specs.Functions.{Fun}
-use Rattle.flc.specs.Formula.{Table, Atom, top, bottom, tau, prop, nprop, dia, box, Op, or, and, chop, Formula, atom, var, op, fix}
+use Rattle.flc.specs.Formula.{Table, Atom, top, bottom, tau, prop, nprop, modal, Op, or, and, chop, Formula, atom, var, op, fix}
 use Rattle.flc.specs.Formula.{meanAtom, Env, put, mean, none, free}
-use Rattle.flc.proofs.Tests.{Rises, both-rises, either-rises, forAll-rises, forSome-rises, both-mk, either-left, either-right, implies-use, implies-mk}
+use Rattle.flc.proofs.Tests.{Rises, both-rises, either-rises, among-rises, both-mk, either-left, either-right}
 use Rattle.flc.proofs.Masks.{setOf-lt, or-setOf, and-setOf}
 use Rattle.flc.proofs.Order.{below-flip, below-antisym, below-trans, agree-below, good-agree, setOf-sub}
 use Rattle.flc.specs.Order.{Below, Agree, Good, GoodEnv}
@@ -53,13 +53,9 @@ atom-good L bottom = const-good (L .n) _ (setOf-lt (L .n) _)
 atom-good L (prop i) = const-good (L .n) _ (setOf-lt (L .n) _)
 atom-good L (nprop i) = const-good (L .n) _ (setOf-lt (L .n) _)
 atom-good L tau = record { small = λ x i. i; mono = λ x y i j u. u }
-atom-good L (dia a) = record {
+atom-good L (modal d g) = record {
   small = λ x i. setOf-lt (L .n) _;
-  mono = λ x y i j u. setOf-sub (L .n) _ _ (λ s k. forSome-rises (L .n) _ _ (λ t l. both-rises _ _ _ _ (λ z. z) (u t l)));
-}
-atom-good L (box a) = record {
-  small = λ x i. setOf-lt (L .n) _;
-  mono = λ x y i j u. setOf-sub (L .n) _ _ (λ s k. forAll-rises (L .n) _ _ (λ t l z. implies-mk _ _ (λ w. u t l (implies-use _ _ z w))));
+  mono = λ x y i j u. setOf-sub (L .n) _ _ (λ s k. among-rises d (L .n) _ _ _ u);
 }
 
 -- or and and: what a connective that rises makes of two of them at each state

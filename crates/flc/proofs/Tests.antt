@@ -8,7 +8,7 @@ use native.Mathlib.Numerals.{add-one}
 use native.Mathlib.Decide.{ℕ-discrete}
 use native.Mathlib.Omega.{arith}
 use lib.Dec.{T}
-use Rattle.flc.specs.Sets.{both, either, implies, forAll, forSome, first}
+use Rattle.flc.specs.Sets.{both, either, implies, forAll, forSome, among, first}
 -- so that the examples come first, and a slip in a definition is reported there
 use Rattle.flc.proofs.Examples as examples
 
@@ -130,6 +130,11 @@ forAll-rises n p q h t = forAll-mk n q (λ i k. h i k (forAll-use n p t i k))
 
 pub forSome-rises : (n : ℕ) (p q : ℕ → Bool) → ((i : ℕ) → i < n → T (p i) → T (q i)) → T (forSome n p) → T (forSome n q)
 forSome-rises n p q h t = let (i, k, r) = forSome-use n p t in forSome-mk n q i k (h i k r)
+
+pub among-rises : (d : Bool) (n : ℕ) (p q q′ : ℕ → Bool) → ((i : ℕ) → i < n → T (q i) → T (q′ i)) → T (among d n p q) → T (among d n p q′)
+unfolding among
+among-rises true n p q q′ h = forSome-rises n _ _ (λ i k. both-rises _ _ _ _ (λ t. t) (h i k))
+among-rises false n p q q′ h = forAll-rises n _ _ (λ i k t. implies-mk _ _ (λ r. h i k (implies-use _ _ t r)))
 
 -- ---- the first that passes
 

@@ -4,11 +4,7 @@ use Prim.Native.Nat.{ℕ, _^_}
 use lib.Dec.{eqb}
 use Rattle.flc.specs.Sets.{both, implies, forAll, forSome, has}
 use Rattle.flc.specs.Functions.{forSomeFun}
-use Rattle.flc.specs.Formula.{Table}
-
--- clause 1.5: there are eight actions
-abbrev pub actions : ℕ
-actions = 8
+use Rattle.flc.specs.Formula.{Table, actions}
 
 -- clause 4.1, one way: for whichever step of s, t has one with the same action, and R relates the states entered
 unfoldable pub met : Table → (ℕ → ℕ → Bool) → ℕ → ℕ → Bool

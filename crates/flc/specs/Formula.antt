@@ -2,7 +2,7 @@
 use mathlib.Core.Bool.{Bool, true, false, not, cond}
 use Prim.Native.Nat.{ℕ}
 use lib.Dec.{eqb}
-use Rattle.flc.specs.Sets.{both, either, implies, forAll, forSome, has, setOf}
+use Rattle.flc.specs.Sets.{both, either, forSome, among, has, setOf}
 use Rattle.flc.specs.Functions.{Fun, meet, join}
 
 -- clauses 1.4 and 1.5: n states, the label byte of each, and the transitions by state left, action, state entered
@@ -11,10 +11,15 @@ pub record Table : Type 0 where
   pub label : ℕ → ℕ
   pub step : ℕ → ℕ → ℕ → Bool
 
--- tt, ff, τ; a proposition, its complement, ⟨a⟩, [a]
+-- clauses 1.5 and 1.7: there are eight actions; a group is a set of them
+abbrev pub actions : ℕ
+actions = 8
+
+-- tt, ff, τ; a proposition, its complement; the modalities of a group, modal true g being ⟨g⟩ and modal false g being [g]
 pub data Atom : Type 0 where
   top bottom tau : Atom
-  prop nprop dia box : ℕ → Atom
+  prop nprop : ℕ → Atom
+  modal : Bool → ℕ → Atom
 
 pub data Op : Type 0 where
   or and chop : Op
@@ -26,15 +31,18 @@ pub data Formula : Type 0 where
   op : Op → Formula → Formula → Formula
   fix : Bool → ℕ → Formula → Formula
 
--- clauses 2.2, 2.3, 2.5 and 2.6: what is constant, τ, and the two modalities at the set x
+-- clauses 2.5 and 2.6: a transition from s to t whose action is in the group g
+unfoldable pub stepsBy : Table → ℕ → ℕ → ℕ → Bool
+stepsBy L g s t = forSome actions (λ a. both (has g a) (L .step s a t))
+
+-- clauses 2.2, 2.3, 2.5 and 2.6: what is constant, τ, and at the set x the modalities: of the states entered by the group some, or all, are in x
 unfoldable pub meanAtom : Table → Atom → Fun
 meanAtom L top x = setOf (L .n) (λ s. true)
 meanAtom L bottom x = setOf (L .n) (λ s. false)
 meanAtom L (prop i) x = setOf (L .n) (λ s. has (L .label s) i)
 meanAtom L (nprop i) x = setOf (L .n) (λ s. not (has (L .label s) i))
 meanAtom L tau x = x
-meanAtom L (dia a) x = setOf (L .n) (λ s. forSome (L .n) (λ t. both (L .step s a t) (has x t)))
-meanAtom L (box a) x = setOf (L .n) (λ s. forAll (L .n) (λ t. implies (L .step s a t) (has x t)))
+meanAtom L (modal d g) x = setOf (L .n) (λ s. among d (L .n) (stepsBy L g s) (has x))
 
 -- clause 2.1: a function for each variable
 abbrev pub Env : Type 0

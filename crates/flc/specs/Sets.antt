@@ -23,6 +23,11 @@ unfoldable pub forSome : ℕ → (ℕ → Bool) → Bool
 forSome zero p = false
 forSome (suc n) p = either (forSome n p) (p n)
 
+-- of the numbers below n that p holds of, q holds of some if the flag is true, and else of all
+unfoldable pub among : Bool → ℕ → (ℕ → Bool) → (ℕ → Bool) → Bool
+among true n p q = forSome n (λ i. both (p i) (q i))
+among false n p q = forAll n (λ i. implies (p i) (q i))
+
 -- the least of the k numbers from i on of which p holds, else i + k
 unfoldable pub first : (ℕ → Bool) → ℕ → ℕ → ℕ
 first p i zero = i

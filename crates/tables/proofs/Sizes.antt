@@ -8,7 +8,7 @@ use borrow.Author.Tests.{lt-ltb}
 use lib.Dec.{T}
 use lib.Pow.{pow-pos, pow-mono}
 use Rattle.flc.specs.Sets.{both, has, setOf}
-use Rattle.flc.specs.Bisimulation.{actions}
+use Rattle.flc.specs.Formula.{actions}
 use Rattle.flc.proofs.Masks.{has-setOf, setOf-lt, setOf-ext, setOf-has, set-ext, has-empty}
 use Rattle.case_model.specs.Limits.{mostStates, propositions}
 use Rattle.case_model.proofs.Tests.{is-true}

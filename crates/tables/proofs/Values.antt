@@ -1,11 +1,14 @@
 -- What is filled in for an atom or an operator is its table.
 -- Once the atom is known, so is the range of its operand; what the table functions fill in is the atom's meaning, entry by entry.
-use Prim.Native.Nat.{ℕ, _-_, _<_}
-use mathlib.Core.Bool.{true}
+use Prim.Native.Nat.{ℕ, _-_, _*_, _%_, _^_, _<_}
+use mathlib.Core.Bool.{Bool, true}
 use mathlib.Core.List.{List}
 use mathlib.Core.Path.{_≡_, sym, ap, ap₂, _∙_, subst}
 use borrow.Author.Tests.{ltb-true}
-use Rattle.flc.specs.Formula.{meanAtom}
+use native.Mathlib.Nat.{one-mul, mod-eq-of-lt}
+use native.Mathlib.Omega.{arith}
+use lib.Pow.{pow-lt}
+use Rattle.flc.specs.Formula.{modal, meanAtom}
 use Rattle.flc.proofs.Masks.{setOf-none}
 use Rattle.case_model.specs.Kinds.{Operand, under, fits}
 use Rattle.case_model.specs.Areas.{Filled}
@@ -46,6 +49,12 @@ module _ {p : Plan} (z : Sized p) {w v : List ℕ} (a : ℕ) {base : ℕ} {x : A
   pub tau-holds : x ≡ atoms.Tau → Filled w v base (p .size) (λ y. y) → AtomFilled p w v base (atomWith x a)
   unfolding meanAtom
   tau-holds q S = atom-holds q S
+
+  -- the group of one action, by a shift
+  pub action-holds : {d : Bool} → x ≡ atoms.Action d → a < 8 → AtomFilled p w v base (modal d (1 * 2 ^ a % 2 ^ 64)) → AtomFilled p w v base (atomWith x a)
+  action-holds {d} q l S =
+      let small : 2 ^ a < 2 ^ 64 = pow-lt {j = 64} (omega arith) in
+      atom-holds q (subst (λ g. AtomFilled p w v base (modal d g)) (simp (one-mul, mod-eq-of-lt small)) S)
 
 -- ---- operators
 pub operator-holds : {w v : List ℕ} {size : ℕ} (left right : ℕ) {base : ℕ} {o o′ : Operator} → o ≡ o′

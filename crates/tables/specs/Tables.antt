@@ -1,11 +1,13 @@
 -- Tables in the work area, as the contracts of the functions on them say it: a table has one word for each set of states.
 use Prim.Native.Nat.{ℕ, _+_, _≤_, _<_}
+use mathlib.Core.Bool.{Bool, cond}
 use mathlib.Core.List.{List}
 use mathlib.Core.Path.{_≡_}
 use lib.Bits.{bitOr, bitAnd}
 use lib.ListN.{length}
 use Rattle.flc.specs.Functions.{Fun}
-use Rattle.flc.specs.Formula.{Atom, Op, or, and, chop, meanAtom}
+use Rattle.flc.specs.Sets.{setOf}
+use Rattle.flc.specs.Formula.{Atom, Op, or, and, chop, stepsBy, meanAtom}
 use Rattle.case_model.specs.Areas.{Filled, from}
 use Rattle.case_plan.specs.Plans.{Plan, tableOf}
 
@@ -20,6 +22,14 @@ abbrev pub combined : Op → Fun → Fun → Fun
 combined or f g x = bitOr (f x) (g x)
 combined and f g x = bitAnd (f x) (g x)
 combined chop f g x = f (g x)
+
+-- the states with a step to t by an action of the group g
+abbrev pub entering : Plan → ℕ → ℕ → ℕ
+entering p g t = setOf (p .states) (λ s. stepsBy (tableOf p) g s t)
+
+-- the set at which ⟨g⟩ has no state whatever g is, and that at which [g] has all
+abbrev pub edge : Bool → ℕ → ℕ
+edge some all = cond some 0 all
 
 -- two tables of w below the one from `base` on; the second has entries of sets
 pub record Beneath (w : List ℕ) (size left right base : ℕ) : Type 0 where

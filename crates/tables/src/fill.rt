@@ -7,8 +7,7 @@ ghost use Rattle.case_model.specs.Kinds.{fits};
 ghost use Rattle.case_reader.specs.NodeKinds.{atomWith, opOf, operandOf};
 ghost use Rattle.case_plan.specs.Plans.{decoded, Sized};
 ghost use Rattle.tables.specs.Tables.{AtomFilled, Beneath, OperatorFilled};
-use crate::modal::boxed;
-use crate::modal::diamond;
+use crate::modal::modality;
 use crate::words::chop;
 use crate::words::constant;
 use crate::words::identity;
@@ -33,8 +32,8 @@ pub fn fill_atom(work: &mut [u16], plan: &Plan, atom: Atom, a: usize, c: usize)
         Atom::Proposition => constant(work, size, c, prop(plan, a)),
         Atom::Complement => constant(work, size, c, full - prop(plan, a)),
         Atom::Tau => identity(work, size, c),
-        Atom::Diamond => diamond(work, plan, a, c),
-        Atom::Boxed => boxed(work, plan, a, c),
+        Atom::Action(some) => modality(work, plan, some, 1 << a, c),
+        Atom::Group(some) => modality(work, plan, some, a, c),
     }
 }
 

@@ -8,13 +8,36 @@ pub fn repeated(first: usize, second: usize, kind: u8) -> Case {
 }
 
 /// The same with a modality at every other node, joined by unions.
-pub fn modal(first: usize, second: usize, kind: u8) -> Case {
-    let nodes = (0..63).map(|j: u8| match j {
-        0 => (5, 0, 0),
-        _ if j % 2 == 1 => (kind, 0, 0),
+pub fn modal(first: usize, second: usize, modality: Triple) -> Case {
+    let nodes = joined(|i| if i == 0 { (5, 0, 0) } else { modality });
+    with_rule(wheels(first, second), nodes)
+}
+
+/// n states with a step of every action from each, and a rule of 64 nodes: as many modalities as
+/// can all be reached, 32, under unions. Modality i is what `modality` says.
+pub fn modalities(states: usize, modality: impl Fn(u8) -> Triple) -> Case {
+    let step = |i: usize| (i / 8, i % 8, (i / 8 + i % 8 + 1) % states);
+    let steps = (0..8 * states).map(step);
+    let steps = steps.map(|(from, action, to)| (from as u8, action as u8, to as u8));
+    let mut nodes = joined(modality);
+    nodes.push((8, 62, 62));
+    let case = Case {
+        labels: vec![0; states],
+        steps: steps.collect(),
+        nodes: vec![],
+        root: 0,
+    };
+    with_rule(case, nodes)
+}
+
+/// 63 nodes: the leaves 0 to 31, joined by unions.
+fn joined(leaf: impl Fn(u8) -> Triple) -> Vec<Triple> {
+    let node = |j: u8| match j {
+        0 => leaf(0),
+        _ if j % 2 == 1 => leaf(j / 2 + 1),
         _ => (8, j - 2, j - 1),
-    });
-    with_rule(wheels(first, second), nodes.collect())
+    };
+    (0..63).map(node).collect()
 }
 
 /// μZ.((⟨1⟩ and ⟨2⟩) or Z;⟨0⟩) or νY.(τ or Z) and ⟨0⟩;Y over the wheels: the inner binder begins
@@ -119,6 +142,7 @@ mod tests {
         };
         assert_eq!(sizes(&longest()), (6365, Ok((16, 64))));
         assert_eq!(sizes(&full_wheels()).1, Ok((16, 64)));
+        assert_eq!(sizes(&modalities(16, |i| (6, i % 8, 0))).1, Ok((16, 64)));
         assert_eq!(sizes(&chops(12, 6)).1, Ok((12, 6)));
         assert_eq!(sizes(&one_binder(1, 6)).1, Ok((1, 6)));
         assert_eq!(sizes(&one_binder(16, 64)).1, Ok((16, 64)));

@@ -2,7 +2,8 @@
 use crate::plan::{Plan, ALWAYS};
 use crate::tables::Tables;
 use plain::kinds::{
-    AND, BOX, CHOP, COMPLEMENT, DIAMOND, FALSE, MU, OR, PROPOSITION, TAU, TRUE, VARIABLE,
+    AND, BOX, CHOP, COMPLEMENT, DIAMOND, FALSE, GROUP_BOX, GROUP_DIAMOND, MU, OR, PROPOSITION, TAU,
+    TRUE, VARIABLE,
 };
 use plain::Shape;
 
@@ -70,8 +71,10 @@ fn fill<T: Tables>(plan: &Plan, j: usize, work: &mut T) {
         COMPLEMENT => work.constant(size, to, full(plan) - plan.props[a]),
         VARIABLE => work.copy(size, plan.homes[a] * size, to),
         TAU => work.identity(size, to),
-        DIAMOND => diamond(plan, a, to, work),
-        BOX => boxed(plan, a, to, work),
+        DIAMOND => diamond(plan, 1 << a, to, work),
+        BOX => boxed(plan, 1 << a, to, work),
+        GROUP_DIAMOND => diamond(plan, a, to, work),
+        GROUP_BOX => boxed(plan, a, to, work),
         OR => work.union(size, left, right, to),
         AND => work.intersection(size, left, right, to),
         CHOP => work.chop(size, left, right, to),
@@ -79,20 +82,54 @@ fn fill<T: Tables>(plan: &Plan, j: usize, work: &mut T) {
     }
 }
 
-/// None into the empty set; a state more adds those with a step into it.
-fn diamond<T: Tables>(plan: &Plan, action: usize, to: usize, work: &mut T) {
+/// None into the empty set; a state more adds those with a step of the group into it.
+fn diamond<T: Tables>(plan: &Plan, group: usize, to: usize, work: &mut T) {
     work.constant(1, to, 0);
     for state in 0..plan.states {
-        work.widen(1 << state, to, plan.sources[16 * action + state]);
+        work.widen(1 << state, to, plan.sources_by(state, group));
     }
 }
 
-/// All states into the set of all; a state less takes away those with a step into it.
-fn boxed<T: Tables>(plan: &Plan, action: usize, to: usize, work: &mut T) {
+/// All states into the set of all; a state less takes away those with a step of the group into it.
+fn boxed<T: Tables>(plan: &Plan, group: usize, to: usize, work: &mut T) {
     let mut filled = to + plan.size - 1;
     work.constant(1, filled, full(plan));
     for state in 0..plan.states {
         filled -= 1 << state;
-        work.narrow(1 << state, filled, !plan.sources[16 * action + state]);
+        work.narrow(1 << state, filled, !plan.sources_by(state, group));
+    }
+}
+
+#[cfg(test)]
+mod tests {
+    use super::*;
+    use crate::tables::Sliced;
+    use differential::formulas::{self, Bounds};
+    use differential::measure::reaches_group;
+    use differential::rng::Rng;
+
+    /// Random rules, most of them with groups, against the plain checker.
+    #[test]
+    fn answers_are_the_plain_checkers() {
+        let mut rng = Rng::new(1_000);
+        let mut groups = 0;
+        for i in 0..300 {
+            let bounds = Bounds {
+                states: 1 + i % 4,
+                nesting: 2,
+                depth: 3,
+            };
+            let case = formulas::case(&mut rng, bounds);
+            groups += usize::from(reaches_group(&case));
+            let file = plain::write(&case);
+            let (plan, set) = (Plan::new(&file), rng.below(1 << bounds.states));
+            let mut work = vec![0; plan.words()];
+            let (answer, rounds) = judge(&plan, set, &mut Sliced(&mut work));
+            let expected = plain::judge(&file, set as u16, usize::MAX).unwrap();
+            let states = (0..bounds.states).map(|s| answer >> s & 1 == 1);
+            assert!(states.eq(expected.states), "{case:?}");
+            assert_eq!(rounds, expected.rounds, "{case:?}");
+        }
+        assert!(groups >= 100, "{groups}");
     }
 }

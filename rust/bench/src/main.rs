@@ -2,6 +2,8 @@
 //!
 //! - `bench ratios FILE`: the proved judge against the same algorithm in Rust, and against the
 //!   plain checker.
+//! - `bench groups FILE`: the proved library alone; what a modality over a group costs beside one
+//!   over a single action.
 //! - `bench growth FILE [SECONDS]`: the proved library alone; how times grow with states, nodes and
 //!   nesting, and the worst cases. A case is left out if it is likely to take more than so many
 //!   seconds, 60 if none are given.
@@ -9,6 +11,7 @@
 
 mod cases;
 mod clock;
+mod groups;
 mod growth;
 mod judge;
 mod nesting;
@@ -26,16 +29,15 @@ use std::time::Duration;
 fn main() -> ExitCode {
     let given: Vec<String> = args().skip(1).collect();
     let given: Vec<&str> = given.iter().map(String::as_str).collect();
-    let (file, seconds) = match given[..] {
-        ["ratios", file] => (file, None),
-        ["growth", file] => (file, Some(Ok(60))),
-        ["growth", file, seconds] => (file, Some(seconds.parse())),
+    let (file, written) = match given[..] {
+        ["ratios", file] => (file, ratios::write(file)),
+        ["groups", file] => (file, groups::write(file)),
+        ["growth", file] => (file, growth::write(file, Duration::from_secs(60))),
+        ["growth", file, seconds] => match seconds.parse() {
+            Ok(seconds) => (file, growth::write(file, Duration::from_secs(seconds))),
+            Err(_) => return usage(),
+        },
         _ => return usage(),
-    };
-    let written = match seconds {
-        None => ratios::write(file),
-        Some(Ok(seconds)) => growth::write(file, Duration::from_secs(seconds)),
-        Some(Err(_)) => return usage(),
     };
     match written {
         Ok(()) => ExitCode::SUCCESS,
@@ -47,6 +49,6 @@ fn main() -> ExitCode {
 }
 
 fn usage() -> ExitCode {
-    eprintln!("bench ratios FILE, or bench growth FILE [SECONDS]");
+    eprintln!("bench ratios FILE, bench groups FILE, or bench growth FILE [SECONDS]");
     ExitCode::from(2)
 }

@@ -15,8 +15,8 @@ pub struct Plan<'a> {
     pub homes: [usize; 16],
     /// For each proposition the states that have it.
     pub props: [u16; 8],
-    /// At 16a + t the states with an a-step to t.
-    pub sources: [u16; 128],
+    /// At 8t + a the states with an a-step to t.
+    sources: [u16; 128],
 }
 
 /// Active from the start.
@@ -56,6 +56,13 @@ impl<'a> Plan<'a> {
         (node[0], node[1], node[2])
     }
 
+    /// The states with a step to this one whose action is in the group: bit a is action a.
+    pub fn sources_by(&self, state: usize, group: usize) -> u16 {
+        let sources = &self.sources[8 * state..8 * state + 8];
+        let members = (0..8).filter(|action| group >> action & 1 == 1);
+        members.fold(0, |set, action| set | sources[action])
+    }
+
     fn read_labels(&mut self, labels: &[u8]) {
         for (state, label) in labels.iter().enumerate() {
             for (i, prop) in self.props.iter_mut().enumerate() {
@@ -66,7 +73,7 @@ impl<'a> Plan<'a> {
 
     fn read_steps(&mut self, steps: &[u8]) {
         for step in steps.chunks_exact(3) {
-            self.sources[16 * usize::from(step[1]) + usize::from(step[2])] |= 1 << step[0];
+            self.sources[8 * usize::from(step[2]) + usize::from(step[1])] |= 1 << step[0];
         }
     }
 

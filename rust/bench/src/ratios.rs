@@ -21,8 +21,14 @@ pub fn write(path: &str) -> io::Result<()> {
             &on_last(name, |p, q| repeated(p, q, kind), 5, 6),
         )?;
     }
-    for (name, kind) in [("diamond, union", 6), ("box, union", 7)] {
-        against_rust(&mut table, &on_last(name, |p, q| modal(p, q, kind), 5, 6))?;
+    for (name, modality) in [
+        ("diamond, union", (6, 0, 0)),
+        ("box, union", (7, 0, 0)),
+        ("diamond of a group, union", (13, 255, 0)),
+        ("box of a group, union", (14, 255, 0)),
+    ] {
+        let case = |p, q| modal(p, q, modality);
+        against_rust(&mut table, &on_last(name, case, 5, 6))?;
     }
     against_plain(&mut table, &on_last("two wheels", wheels, 3, 4))?;
     against_plain(&mut table, &on_last("nested binders", nested, 3, 4))

@@ -1,4 +1,5 @@
 //! Rules in which the laws find much to rewrite: nested chops, unions and intersections.
+use crate::groups;
 use crate::rng::Rng;
 use plain::kinds::{AND, CHOP, MU, NU, OR};
 use plain::{Case, Triple};
@@ -15,10 +16,16 @@ const LEAVES: [Triple; 8] = [
     (6, 1, 0),
 ];
 
-/// The case with a rule of so many nodes at most: a binder over nodes that name two each.
+/// The case with a rule of so many nodes at most: a binder over nodes that name two each, and
+/// nodes with groups between them.
 pub fn put_into(rng: &mut Rng, case: Case, most: usize) -> Case {
     let mut nodes = LEAVES.to_vec();
-    for _ in 0..rng.within(1..=most - LEAVES.len() - 1) {
+    let count = rng.within(LEAVES.len() + 1..=most - 1);
+    while nodes.len() < count {
+        // Leaves among the others, so that a law puts nodes in before and behind them.
+        if nodes.len() + 1 < count && rng.one_in(4) {
+            nodes.push(groups::node(rng));
+        }
         let kind = rng.pick(&[OR, AND, CHOP, CHOP]);
         let (left, right) = (named(rng, nodes.len()), named(rng, nodes.len()));
         nodes.push((kind, left, right));

@@ -27,6 +27,12 @@ pub fn drives() -> Vec<(&'static str, Case)> {
         ("nu.case", one_state(&[(4, 0, 0), (12, 0, 0)])),
         ("chop_and.case", chop_and()),
         ("and_chops.case", and_chops()),
+        ("empty_group_some.case", on_two((13, 0, 0))),
+        ("empty_group_all.case", on_two((14, 0, 0))),
+        ("two_actions_some.case", on_two((13, 0b1000_0001, 0))),
+        ("two_actions_all.case", on_two((14, 0b1000_0001, 0))),
+        ("one_action_as_group.case", on_two((13, 0b1000_0000, 0))),
+        ("one_action.case", on_two((6, 7, 0))),
         ("feed_and_back.case", printer::feed_and_back()),
         (
             "no_more_back_than_fed.case",
@@ -38,6 +44,7 @@ pub fn drives() -> Vec<(&'static str, Case)> {
             "pulled_back_fed_again.case",
             printer::pulled_back_fed_again(),
         ),
+        ("tight_at_any_current.case", printer::tight_at_any_current()),
     ]
 }
 
@@ -123,6 +130,11 @@ fn and_chops() -> Case {
 /// State 0 steps to 1, which has proposition 0, and to 2, which has proposition 1.
 fn fork(nodes: &[Triple]) -> Case {
     case(&[0, 1, 2], &[(0, 0, 1), (0, 0, 2)], nodes)
+}
+
+/// State 0 steps to itself by action 0 and to 1 by action 7, and 1 steps to 0 by action 3.
+fn on_two(node: Triple) -> Case {
+    case(&[0, 0], &[(0, 0, 0), (0, 7, 1), (1, 3, 0)], &[node])
 }
 
 fn one_state(nodes: &[Triple]) -> Case {

@@ -1,5 +1,6 @@
 //! Cases for judging: rules drawn from the root down, so that binders bind what their bodies use.
 //! Nodes are shared, and some that the root does not reach stand between the others.
+use crate::groups;
 use crate::rng::Rng;
 use plain::kinds::{
     AND, BOX, CHOP, COMPLEMENT, DIAMOND, FALSE, MU, NU, OR, PROPOSITION, TAU, TRUE, VARIABLE,
@@ -193,10 +194,14 @@ impl Rule {
         self.push(rng, (kind, start, outer))
     }
 
+    /// Every other one with a group.
     fn modality(&mut self, rng: &mut Rng) -> u8 {
-        let kind = rng.pick(&[DIAMOND, BOX]);
-        let action = rng.byte_below(ACTIONS);
-        self.push(rng, (kind, action, 0))
+        let node = if rng.one_in(2) {
+            groups::node(rng)
+        } else {
+            (rng.pick(&[DIAMOND, BOX]), rng.byte_below(ACTIONS), 0)
+        };
+        self.push(rng, node)
     }
 
     /// A node that is there already, if one fits.

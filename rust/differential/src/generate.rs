@@ -1,8 +1,9 @@
 //! Valid cases: shared nodes, nested binders, unreached nodes with free variables.
+use crate::groups::group;
 use crate::rng::Rng;
 use plain::kinds::{
-    values_of_a, AND, BOX, CHOP, COMPLEMENT, DIAMOND, FALSE, MU, NU, OR, PROPOSITION, TAU, TRUE,
-    VARIABLE,
+    values_of_a, AND, BOX, CHOP, COMPLEMENT, DIAMOND, FALSE, GROUP_BOX, GROUP_DIAMOND, MU, NU, OR,
+    PROPOSITION, TAU, TRUE, VARIABLE,
 };
 use plain::{Case, Shape, Triple};
 
@@ -191,8 +192,20 @@ impl Rule {
 
 /// A node that names no other and is no variable.
 fn leaf(rng: &mut Rng) -> Triple {
-    let kind = rng.pick(&[TRUE, FALSE, PROPOSITION, COMPLEMENT, TAU, DIAMOND, BOX]);
+    const KINDS: [u8; 9] = [
+        TRUE,
+        FALSE,
+        PROPOSITION,
+        COMPLEMENT,
+        TAU,
+        DIAMOND,
+        BOX,
+        GROUP_DIAMOND,
+        GROUP_BOX,
+    ];
+    let kind = rng.pick(&KINDS);
     match values_of_a(kind) {
+        Some(256) => (kind, group(rng), 0),
         Some(values @ 2..) => (kind, rng.byte_below(values), 0),
         _ => (kind, 0, 0),
     }

@@ -11,6 +11,7 @@ pub mod edits;
 pub mod f_changed;
 pub mod formulas;
 pub mod generate;
+pub mod groups;
 pub mod judging;
 pub mod measure;
 pub mod printed;

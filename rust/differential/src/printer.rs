@@ -1,6 +1,6 @@
-//! Rules of the source documents on the drive of a label printer. Its motor turns a roller, which
-//! feeds the paper or pulls it back, a step at a time. Where a state can hold, the table
-//! has a sound drive in its lower states and one with a fault beside it.
+//! Rules on the drive of a label printer, most of them of the source documents. Its motor turns a
+//! roller, which feeds the paper or pulls it back, a step at a time, or keeps a ribbon tight. Where
+//! a state can hold, the table has a sound drive in its lower states and one with a fault beside it.
 use crate::drives::case;
 use plain::{Case, Triple};
 
@@ -16,7 +16,7 @@ const Z: Triple = (4, 0, 0);
 const Y: Triple = (4, 1, 0);
 const TAU: Triple = (5, 0, 0);
 const FF: Triple = (1, 0, 0);
-/// At the mark, at rest or at the cutter, as each drive says.
+/// At the mark, at rest, at the cutter or tight, as each drive says.
 const MARK: Triple = (2, 0, 0);
 
 /// Document 000, example 2: (νZ.τ and ⟨feed⟩;Z;⟨back⟩);mark. Some feeding goes on for ever, and
@@ -197,4 +197,43 @@ pub fn pulled_back_fed_again() -> Case {
         (10, 10, 5),
     ];
     case(&[1, 0, 0, 1, 0, 0], &steps, &nodes)
+}
+
+/// νZ.tight and [any current];Z. Whatever currents the motor gets, one after the other, the ribbon
+/// is tight. The currents are the eight actions, and one group has them all.
+///
+/// Every current leads from 0 to 1 and from 1 to 0. In 2 the highest one makes the ribbon slack, in
+/// 3. In 4 the motor takes no current, and from 5 it gets there.
+pub fn tight_at_any_current() -> Case {
+    let nodes = [
+        Z,
+        MARK,
+        (14, 255, 0), // [any current]
+        (10, 2, 0),   // [any current];Z
+        (9, 1, 3),    // tight and that
+        (12, 0, 4),   // νZ
+    ];
+    ribbon(&nodes)
+}
+
+/// νZ.tight and [0];Z and [1];Z and so on to [7];Z: the same rule without a group.
+pub fn tight_at_each_current() -> Case {
+    let mut nodes = vec![Z, MARK];
+    for current in 0..8 {
+        let (so_far, next) = (nodes.len() as u8 - 1, nodes.len() as u8);
+        nodes.extend([(7, current, 0), (10, next, 0), (9, so_far, next + 1)]);
+    }
+    nodes.push((12, 0, nodes.len() as u8 - 1));
+    ribbon(&nodes)
+}
+
+/// The table of the ribbon with a rule.
+fn ribbon(nodes: &[Triple]) -> Case {
+    let mut steps = vec![];
+    for (from, to) in [(0, 1), (1, 0)] {
+        steps.extend((0..8).map(|current| (from, current, to)));
+    }
+    steps.extend((0..7).map(|current| (2, current, 2)));
+    steps.extend([(2, 7, 3), (3, 0, 2), (5, 3, 4)]);
+    case(&[1, 1, 1, 0, 1, 1], &steps, nodes)
 }

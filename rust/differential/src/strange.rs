@@ -1,5 +1,6 @@
 //! Files of which only the two checkers can tell what they get, and section numbers.
 use crate::generate::case;
+use crate::groups::{group, has_group};
 use crate::rng::Rng;
 use plain::kinds::{self, VARIABLE};
 use plain::{pack, write, Shape, Triple, PAIRS_LENGTH};
@@ -97,6 +98,7 @@ fn any_node(rng: &mut Rng, number: usize) -> Triple {
         Shape::Two(..) => (kind, rng.byte_below(number + 1), rng.byte_below(number + 1)),
         Shape::Binder(..) => (kind, rng.byte_below(17), rng.byte_below(number + 1)),
         Shape::Leaf if kind == VARIABLE => (kind, rng.byte_below(3), 0),
+        Shape::Leaf if has_group((kind, 0, 0)) => (kind, group(rng), 0),
         Shape::Leaf => (kind, 0, 0),
     }
 }

@@ -1,4 +1,5 @@
 //! The comparison of the two checkers, and a count of what was compared.
+use crate::groups::has_group;
 use crate::replies::in_plain;
 use plain::Refusal;
 use std::hint::black_box;
@@ -13,6 +14,8 @@ pub struct Tally {
     /// Calls of the proved library.
     pub calls: usize,
     pub answers: usize,
+    /// Those of them about a rule that has a node with a group.
+    pub with_groups: usize,
     /// By number; index 0 is unused.
     pub refusals: [usize; 14],
     /// Those of them whose place is not 0.
@@ -25,7 +28,12 @@ impl Tally {
         let reply = compare(file, section);
         self.calls += 2;
         match reply {
-            Ok(_) => self.answers += 1,
+            Ok(_) => {
+                self.answers += 1;
+                let case = plain::parse(file).expect("what is answered is a case");
+                let has_groups = case.nodes.iter().any(|&node| has_group(node));
+                self.with_groups += usize::from(has_groups);
+            }
             Err(refusal) => {
                 self.refusals[refusal.number as usize] += 1;
                 self.placed[refusal.number as usize] += usize::from(refusal.place != 0);

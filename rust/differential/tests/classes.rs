@@ -6,7 +6,7 @@ use differential::replies::refused;
 use differential::rng::Rng;
 use differential::strange::STRANGE;
 use differential::{alike_tables, drives, generate};
-use plain::{classes_by_all_relations, write};
+use plain::{classes_by_all_relations, write, Triple};
 
 #[test]
 fn drives() {
@@ -18,8 +18,14 @@ fn drives() {
 /// Two states that one step, or one bit of their labels, tells apart.
 #[test]
 fn every_action_and_label_bit_counts() {
-    let mut case = drives::f();
-    (case.labels, case.nodes, case.root) = (vec![0; 3], vec![(5, 0, 0)], 0);
+    // The rule has no part in it, though a group of all actions does not tell one from another.
+    for rule in [(5, 0, 0), (13, 255, 0), (14, 255, 0)] {
+        each_counts_under(rule);
+    }
+}
+
+fn each_counts_under(rule: Triple) {
+    let mut case = drives::case(&[0; 3], &[], &[rule]);
     for action in 0..8 {
         case.steps = vec![(1, action, 0)];
         assert_eq!(classes(&write(&case), 3), Ok(vec![0, 1, 0]));

@@ -2,19 +2,44 @@
 //! seeds. At the end each state of the first case must hold if and only if the state standing for
 //! it does.
 use differential::edits::{turn, LONGEST};
+use differential::groups::has_group;
 use differential::judging::{all_states, needed, proved};
 use differential::rng::Rng;
 use differential::{alike_tables, chops, drives, generate};
-use plain::{write, Book, Case, Edit, Shape};
+use plain::{write, Book, Case, Edit, Shape, Triple};
 
 /// How often each reply came.
 #[derive(Default, Debug)]
 struct Count {
     merges: usize,
+    /// Those of a case whose rule has groups.
+    merges_with_groups: usize,
     rewrites: usize,
+    /// Those that put nodes in, with groups at lower nodes and at higher ones.
+    between_groups: usize,
     refusals: [usize; 14],
     /// Lists of a case in which some states hold and some do not.
     mixed: usize,
+}
+
+impl Count {
+    /// An edit of this file that wrote another.
+    fn accepted(&mut self, file: &[u8], edit: Edit, written: &[u8]) {
+        let nodes = plain::parse(file).expect("a case").nodes;
+        let groups = |nodes: &[Triple]| nodes.iter().any(|&node| has_group(node));
+        match edit {
+            Edit::Merge { .. } => {
+                self.merges += 1;
+                self.merges_with_groups += usize::from(groups(&nodes));
+            }
+            Edit::Rewrite { node, .. } => {
+                self.rewrites += 1;
+                let (lower, higher) = nodes.split_at(node);
+                let between = groups(lower) && groups(higher);
+                self.between_groups += usize::from(between && written.len() > file.len());
+            }
+        }
+    }
 }
 
 /// For each state whether it holds.
@@ -38,11 +63,8 @@ fn run(rng: &mut Rng, first: &[u8], count: &mut Count) {
         match (turn(&mut book, &file, edit, room), edit) {
             (Err(refusal), _) => count.refusals[refusal.number as usize] += 1,
             (Ok(written), edit) => {
+                count.accepted(&file, edit, &written);
                 file = written;
-                match edit {
-                    Edit::Merge { .. } => count.merges += 1,
-                    Edit::Rewrite { .. } => count.rewrites += 1,
-                }
             }
         }
         assert_eq!(file, book.file());
@@ -132,6 +154,8 @@ fn alike_states() {
         assert!(count.refusals[row] >= 20, "{count:?}");
     }
     assert!(count.mixed >= 80, "{count:?}");
+    assert!(count.merges_with_groups >= 100, "{count:?}");
+    assert!(count.between_groups >= 100, "{count:?}");
 }
 
 #[test]
@@ -144,6 +168,7 @@ fn rules_of_any_kind() {
     }
     println!("{count:?}");
     assert!(count.rewrites >= 500, "{count:?}");
+    assert!(count.between_groups >= 20, "{count:?}");
 }
 
 #[test]

@@ -1,6 +1,9 @@
 //! The files of the folder `cases`, judged by both checkers.
 use differential::drives::{drives, read};
-use differential::judging::{all_states, compare, compare_with_all_functions, needed, set_of};
+use differential::judging::{
+    all_states, compare, compare_sets, compare_with_all_functions, needed, set_of,
+};
+use differential::printer;
 
 /// Judges the file on the set: the answer's states, and rounds.
 fn judged(name: &str, on: u16) -> (Vec<usize>, u64) {
@@ -75,9 +78,57 @@ fn chop_does_not_distribute_on_the_right() {
     }
 }
 
+/// Each file with what it yields of the sets {}, {0}, {1} and {0, 1}.
+#[test]
+fn groups() {
+    let (none, zero, one, both) = (vec![], vec![0], vec![1], vec![0, 1]);
+    for (name, values) in [
+        ("empty_group_some.case", [&none, &none, &none, &none]),
+        ("empty_group_all.case", [&both, &both, &both, &both]),
+        ("two_actions_some.case", [&none, &zero, &zero, &zero]),
+        ("two_actions_all.case", [&one, &one, &one, &both]),
+        ("one_action_as_group.case", [&none, &none, &zero, &zero]),
+        ("one_action.case", [&none, &none, &zero, &zero]),
+    ] {
+        for (set, value) in (0..).zip(values) {
+            assert_eq!(judged(name, set), (value.clone(), 0), "{name}, {set}");
+        }
+    }
+}
+
+/// A group of all currents says what a box for each of them says, at every set. Approximant 1 is
+/// without state 3, where the ribbon is slack, and approximant 2 without state 2 as well.
+#[test]
+fn any_current_is_each_current() {
+    let (group, copies) = (
+        printer::tight_at_any_current(),
+        printer::tight_at_each_current(),
+    );
+    assert_eq!((group.nodes.len(), copies.nodes.len()), (6, 27));
+    let sets: Vec<u16> = (0..=all_states(6)).collect();
+    assert_eq!(compare_sets(&group, &sets), 2);
+    assert_eq!(compare_sets(&copies, &sets), 2);
+    for &set in &sets {
+        let found = judged("tight_at_any_current.case", set);
+        assert_eq!(found, (vec![0, 1, 4, 5], 2), "set {set}");
+    }
+    let functions = [group, copies].map(|case| plain::meaning(&case).function);
+    assert_eq!(functions[0], functions[1]);
+}
+
 #[test]
 fn small_drives_by_all_monotone_functions() {
-    for name in ["f.case", "example_4.case", "box.case", "mu.case", "nu.case"] {
+    for name in [
+        "f.case",
+        "example_4.case",
+        "box.case",
+        "mu.case",
+        "nu.case",
+        "empty_group_some.case",
+        "empty_group_all.case",
+        "two_actions_some.case",
+        "two_actions_all.case",
+    ] {
         compare_with_all_functions(&plain::parse(&read(name)).unwrap());
     }
 }

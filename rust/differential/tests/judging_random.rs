@@ -2,7 +2,7 @@
 use differential::formulas::{case, Bounds};
 use differential::generate;
 use differential::judging::{compare_sets, compare_with_all_functions};
-use differential::measure::{nesting, tree_size};
+use differential::measure::{nesting, reaches_group, tree_size};
 use differential::rng::Rng;
 use plain::Case;
 
@@ -15,17 +15,22 @@ fn sets(rng: &mut Rng, states: usize, most: usize) -> Vec<u16> {
     (0..most).map(|_| rng.below(all) as u16).collect()
 }
 
-/// How often so many rounds came; the last counts all above.
 #[derive(Debug, Default)]
-struct Rounds([usize; 6]);
+struct Count {
+    /// How often so many rounds came; the last counts all above.
+    rounds: [usize; 6],
+    /// Rules whose root reaches a node with a group.
+    groups: usize,
+}
 
-impl Rounds {
-    fn count(&mut self, rounds: u64) {
-        self.0[(rounds as usize).min(5)] += 1;
+impl Count {
+    fn add(&mut self, case: &Case, rounds: u64) {
+        self.rounds[(rounds as usize).min(5)] += 1;
+        self.groups += usize::from(reaches_group(case));
     }
 
     fn at_least(&self, rounds: usize) -> usize {
-        self.0[rounds..].iter().sum()
+        self.rounds[rounds..].iter().sum()
     }
 }
 
@@ -34,19 +39,19 @@ fn judge_drawn(
     count: usize,
     most_sets: usize,
     draw: impl Fn(&mut Rng) -> Case,
-) -> Rounds {
+) -> Count {
     let mut rng = Rng::new(seed);
-    let mut rounds = Rounds::default();
+    let mut counted = Count::default();
     for _ in 0..count {
         let case = draw(&mut rng);
         let sets = sets(&mut rng, case.labels.len(), most_sets);
-        rounds.count(compare_sets(&case, &sets));
+        counted.add(&case, compare_sets(&case, &sets));
     }
-    println!("{rounds:?}");
-    rounds
+    println!("{counted:?}");
+    counted
 }
 
-fn judge_within(bounds: Bounds, count: usize, most_sets: usize) -> Rounds {
+fn judge_within(bounds: Bounds, count: usize, most_sets: usize) -> Count {
     let seed = 300 + bounds.states as u64;
     judge_drawn(seed, count, most_sets, |rng| case(rng, bounds))
 }
@@ -74,17 +79,19 @@ const UNBOUND: Bounds = Bounds {
 #[test]
 fn nested_binders() {
     for states in 1..=5 {
-        let rounds = judge_within(Bounds { states, ..NESTED }, 1_000, 16);
-        assert!(rounds.at_least(1) >= 300, "{states} states");
-        assert!(states == 1 || rounds.at_least(2) >= 50, "{states} states");
+        let count = judge_within(Bounds { states, ..NESTED }, 1_000, 16);
+        assert!(count.at_least(1) >= 300, "{states} states");
+        assert!(states == 1 || count.at_least(2) >= 50, "{states} states");
+        assert!(count.groups >= 300, "{states} states");
     }
 }
 
 #[test]
 fn single_binders() {
     for states in 6..=8 {
-        let rounds = judge_within(Bounds { states, ..SINGLE }, 300, 8);
-        assert!(rounds.at_least(2) >= 30, "{states} states");
+        let count = judge_within(Bounds { states, ..SINGLE }, 300, 8);
+        assert!(count.at_least(2) >= 30, "{states} states");
+        assert!(count.groups >= 100, "{states} states");
     }
 }
 
@@ -100,15 +107,15 @@ fn large_tables() {
 #[test]
 fn rules_from_the_leaves_up() {
     let small = |case: &Case| case.labels.len() <= 5 && nesting(case) <= 3;
-    let rounds = judge_drawn(320, 1_500, 8, |rng| generate::case_where(rng, small));
-    assert!(rounds.at_least(1) >= 200);
+    let count = judge_drawn(320, 1_500, 8, |rng| generate::case_where(rng, small));
+    assert!(count.at_least(1) >= 200 && count.groups >= 200);
 }
 
 /// Both checkers against meet and join of all monotone functions.
 #[test]
 fn all_monotone_functions() {
     let mut rng = Rng::new(330);
-    let mut rounds = Rounds::default();
+    let mut count = Count::default();
     for i in 0..1_000 {
         let states = 1 + i % 2;
         let bounds = Bounds {
@@ -123,8 +130,9 @@ fn all_monotone_functions() {
                 break case;
             }
         };
-        rounds.count(compare_with_all_functions(&case));
+        count.add(&case, compare_with_all_functions(&case));
     }
-    println!("{rounds:?}");
-    assert!(rounds.at_least(1) >= 300 && rounds.at_least(2) >= 20);
+    println!("{count:?}");
+    assert!(count.at_least(1) >= 300 && count.at_least(2) >= 20);
+    assert!(count.groups >= 300);
 }

@@ -39,7 +39,7 @@ fn node_counts() {
     assert_eq!(vetted(1, &[], &[TT; 65]), refused(4, 0));
 }
 
-/// For each kind the highest A and B of node 1, and those just above.
+/// For each kind but 13 and 14 the highest A and B of node 1, and those just above.
 #[test]
 fn node_bytes() {
     let highest = [
@@ -64,8 +64,26 @@ fn node_bytes() {
         assert_eq!(vetted(1, &[], &[TT, (kind, 255, b)]), refused(5, 1));
         assert_eq!(vetted(1, &[], &[TT, (kind, a, 255)]), refused(5, 1));
     }
-    assert_eq!(vetted(1, &[], &[TT, (13, 0, 0)]), refused(5, 1));
-    assert_eq!(vetted(1, &[], &[TT, (255, 0, 0)]), refused(5, 1));
+    for kind in [15, 16, 255] {
+        assert_eq!(vetted(1, &[], &[TT, (kind, 0, 0)]), refused(5, 1));
+    }
+}
+
+/// A group can be any byte, and B is 0. It is no variable, which would be free in the root.
+#[test]
+fn groups() {
+    for kind in [13, 14] {
+        for group in 0..=255 {
+            assert_eq!(vetted(1, &[], &[(kind, group, 0)]), Ok((1, 1)));
+            for b in [1, 2, 128, 255] {
+                assert_eq!(vetted(1, &[], &[(kind, group, b)]), refused(5, 0));
+                assert_eq!(vetted(1, &[], &[TT, (kind, group, b)]), refused(5, 1));
+            }
+        }
+    }
+    for group in 0..=255 {
+        assert_eq!(vetted(1, &[], &[(15, group, 0)]), refused(5, 0));
+    }
 }
 
 /// Every variable has a binder and is bound.

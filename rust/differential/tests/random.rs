@@ -27,6 +27,7 @@ fn valid_cases() {
     println!("{tally:?}");
     assert_eq!(tally.calls, 80_000);
     assert!(tally.answers > 20_000 && tally.refusals[8] > 5_000);
+    assert!(tally.with_groups > 10_000);
 }
 
 /// Each fault gets its own row and place, whatever the section number.
@@ -55,7 +56,7 @@ fn strange_files() {
     }
     println!("{tally:?}");
     assert_eq!(tally.calls, 120_000);
-    assert!(tally.answers >= 1_000);
+    assert!(tally.answers >= 1_000 && tally.with_groups >= 500);
     for row in 1..=8 {
         assert!(tally.refusals[row] >= 100, "row {row}");
     }

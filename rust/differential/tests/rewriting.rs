@@ -82,10 +82,12 @@ fn random_rules() {
     assert!(count.answers[1..].iter().all(|&answers| answers >= 5));
 }
 
-/// A node of this kind over nodes 0 and 1, its variable free or bound by no other.
+/// A node of this kind over nodes 0 and 1, its variable free or bound by no other. A group has the
+/// number of the node that is rewritten, which it does not name.
 fn over_leaves(kind: u8, variable: u8) -> Triple {
     match Shape::of((kind, 0, 0)) {
         Shape::Leaf if values_of_a(kind) == Some(1) => (kind, 0, 0),
+        Shape::Leaf if values_of_a(kind) == Some(256) => (kind, 4, 0),
         Shape::Leaf => (kind, 1, 0),
         Shape::Two(..) => (kind, 0, 1),
         Shape::Binder(..) => (kind, variable, 1),
@@ -107,6 +109,7 @@ fn shape(top: u8, left: u8, right: u8, twice: bool) -> Case {
         (8, 4, 4),
         (10, 4, 5),
         (12, 4, 6),
+        (13, 4, 0),
     ];
     // Node 4 cannot be the root where it has a free variable.
     let closed = left != VARIABLE && right != VARIABLE;
@@ -142,6 +145,49 @@ fn every_shape() {
     }
     println!("{:?} {:?}", count.answers, count.refusals);
     assert!(count.answers[1..].iter().all(|&answers| answers >= 20));
+}
+
+/// The nodes of a case after a law at node 4. Its root is the last.
+fn rewritten(law: usize, nodes: &[Triple]) -> Result<Vec<Triple>, Refusal> {
+    let file = write(&drives::case(&[0], &[], nodes));
+    let file = rewrite(&file, law, 4, LONGEST)?;
+    Ok(plain::parse(&file).expect("a case").nodes)
+}
+
+/// Nodes with groups below the rewritten node and above it keep their bytes, whatever the group is,
+/// and law 3 takes none of them for a constant.
+#[test]
+fn groups_stay_as_they_are() {
+    for (kind, group) in (0..=255).flat_map(|group| [(13, group), (14, group)]) {
+        let (g, h) = ((kind, group, 0), (27 - kind, group, 0));
+        // The root names a node and the group behind the nodes that change.
+        let rule = |middle: &[Triple], named: u8| {
+            let behind = 3 + middle.len() as u8;
+            [&[g, h, g], middle, &[h, (9, named, behind)]].concat()
+        };
+        let expect = |law, given: [Triple; 2], middle: &[Triple], named| {
+            let found = rewritten(law, &rule(&given, 4));
+            assert_eq!(found, Ok(rule(middle, named)), "law {law}, group {group}");
+        };
+        let (tau, tt, ab) = ((5, 0, 0), (0, 0, 0), (10, 0, 1));
+        for (law, given, left_over) in [
+            (1, [tau, (10, 3, 2)], 2),
+            (2, [tau, (10, 2, 3)], 2),
+            (3, [tt, (10, 3, 2)], 3),
+            (8, [ab, (8, 2, 2)], 2),
+        ] {
+            expect(law, given, &given, left_over);
+        }
+        expect(4, [ab, (10, 3, 2)], &[ab, (10, 1, 2), (10, 0, 4)], 5);
+        expect(5, [ab, (10, 2, 3)], &[ab, (10, 2, 0), (10, 4, 1)], 5);
+        for (law, both) in [(6, 8), (7, 9)] {
+            let given = [(both, 0, 1), (10, 3, 2)];
+            let chops = [(10, 0, 2), (10, 1, 2)];
+            expect(law, given, &[given[0], chops[0], chops[1], (both, 4, 5)], 6);
+        }
+        expect(9, [ab, (8, 3, 2)], &[ab, (8, 2, 3)], 4);
+        assert_eq!(rewritten(3, &rule(&[ab, (10, 0, 3)], 4)), refused(11, 0));
+    }
 }
 
 /// Leaves before the shape, or behind it, up to so many nodes.
@@ -181,7 +227,8 @@ fn near_64_nodes() {
             let padded = padded(&case, nodes, in_front);
             count.everywhere(&padded);
             too_many += count.refusals[12];
-            let node = if in_front { nodes - 4 } else { 4 };
+            let added = nodes - case.nodes.len();
+            let node = if in_front { 4 + added } else { 4 };
             let file = write(&padded);
             for (law, more) in [(4, 1), (5, 1), (6, 2), (7, 2)] {
                 let fits = rewrite(&write(&case), law, 4, LONGEST).is_ok();

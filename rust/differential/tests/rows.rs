@@ -58,7 +58,7 @@ fn places_are_the_lowest() {
             refused(3, 1),
         ),
         (
-            f_with(|f| (f.nodes[3], f.nodes[8]) = ((13, 0, 0), (13, 0, 0))),
+            f_with(|f| (f.nodes[3], f.nodes[8]) = ((15, 0, 0), (15, 0, 0))),
             refused(5, 3),
         ),
         // Three binders of one variable: the second.

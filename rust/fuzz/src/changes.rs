@@ -1,16 +1,18 @@
 //! Changes of a file that make it a wrong case, or at times another right one.
+use differential::groups;
 use differential::rng::Rng;
 use plain::{pack, PAIRS_LENGTH};
 
 /// One to three changes.
 pub fn change(rng: &mut Rng, file: &mut Vec<u8>) {
     for _ in 0..rng.within(1..=3) {
-        match rng.below(7) {
+        match rng.below(8) {
             0 => flip(rng, file),
             1..=2 => border_byte(rng, file),
             3 => border_pair(rng, file),
             4 => cut(rng, file),
             5 => lengthen(rng, file),
+            6 => group(rng, file),
             _ => section(rng, file),
         }
     }
@@ -25,7 +27,9 @@ fn flip(rng: &mut Rng, file: &mut [u8]) {
 
 /// A byte at the border of some range, or next to what it was.
 fn border_byte(rng: &mut Rng, file: &mut [u8]) {
-    const BORDERS: [u8; 16] = [0, 1, 4, 5, 7, 8, 10, 11, 12, 13, 15, 16, 63, 64, 128, 255];
+    const BORDERS: [u8; 17] = [
+        0, 1, 4, 5, 7, 8, 10, 11, 12, 13, 14, 15, 16, 63, 64, 128, 255,
+    ];
     if let Some(byte) = any_byte(rng, file) {
         let near = [byte.wrapping_add(1), byte.wrapping_sub(1)];
         *byte = if rng.one_in(3) {
@@ -42,7 +46,8 @@ fn border_pair(rng: &mut Rng, file: &mut [u8]) {
     let length = file.len();
     let at = 2 * rng.below(6);
     if let Some(number) = file.get_mut(at..at + 2) {
-        let near = [length, length - 1, length + 1, length - PAIRS_LENGTH];
+        let sections = length.saturating_sub(PAIRS_LENGTH);
+        let near = [length, length - 1, length + 1, sections];
         let value = if rng.one_in(2) {
             rng.pick(&near)
         } else {
@@ -62,6 +67,17 @@ fn lengthen(rng: &mut Rng, file: &mut Vec<u8>) {
     let more = if rng.one_in(8) { 7_000 } else { 4 };
     let more = rng.within(1..=more);
     file.extend(rng.bytes(more));
+}
+
+/// A node that gets a group, its unused byte at times not 0, if the file is still a case.
+fn group(rng: &mut Rng, file: &mut [u8]) {
+    let Ok(rule) = plain::open(file, 2) else {
+        return;
+    };
+    let at = rule.start + 3 * rng.below(rule.len() / 3);
+    let (kind, group, unused) = groups::node(rng);
+    let b = if rng.one_in(4) { rng.byte() } else { unused };
+    file[at..at + 3].copy_from_slice(&[kind, group, b]);
 }
 
 /// A section cut or lengthened under right pairs, if the file is still a case.

@@ -68,3 +68,28 @@ pub fn with_alike_states(rng: &mut Rng) -> Case {
         }
     }
 }
+
+#[cfg(test)]
+mod tests {
+    use super::*;
+    use differential::groups::has_group;
+    use differential::measure::reaches_group;
+    use std::collections::BTreeSet;
+
+    /// Of the files that are cases many have groups that count, and every group comes up.
+    #[test]
+    fn groups() {
+        let mut rng = Rng::new(1);
+        let (mut cases, mut reached, mut groups) = (0, 0, BTreeSet::new());
+        for _ in 0..20_000 {
+            let Ok(case) = plain::parse(&any(&mut rng)) else {
+                continue;
+            };
+            cases += 1;
+            reached += usize::from(reaches_group(&case));
+            groups.extend(case.nodes.into_iter().filter(|&node| has_group(node)));
+        }
+        assert!(4 * reached >= cases, "{reached} of {cases}");
+        assert_eq!(groups.len(), 2 * 256);
+    }
+}

@@ -7,6 +7,28 @@ pub const LABELS: usize = 0;
 /// The section of steps: three bytes each, from, action, to.
 pub const STEPS: usize = 1;
 /// The section of the rule: nodes (kind, A, B), then the root's number.
+///
+/// | Kind | Yields | A | B |
+/// |---|---|---|---|
+/// | 0 | tt: all states | | |
+/// | 1 | ff: no state | | |
+/// | 2 | the states that have proposition A | 0 to 7 | |
+/// | 3 | those that do not have it | 0 to 7 | |
+/// | 4 | what variable A yields | 0 to 15 | |
+/// | 5 | τ: the set that is given | | |
+/// | 6 | ⟨a⟩: some step by action A leads into the set | 0 to 7 | |
+/// | 7 | \[a\]: all such steps do | 0 to 7 | |
+/// | 8 | what A or B yields | a node | a node |
+/// | 9 | what both A and B yield | a node | a node |
+/// | 10 | A;B: what A yields of what B yields | a node | a node |
+/// | 11 | μ: the least fixed point | its variable, 0 to 15 | its body, a node |
+/// | 12 | ν: the greatest fixed point | the same | the same |
+/// | 13 | some step whose action is in the group A leads into the set | 0 to 255, bit i for action i | |
+/// | 14 | all such steps do | the same | |
+///
+/// An operand without an entry is unused and has to be 0; a node that is named has to be lower. Of a
+/// state without such a step all such steps lead into the set, so that the empty group, 0, yields
+/// no state by kind 13 and every state by kind 14.
 pub const RULE: usize = 2;
 
 /// What vetting answers: how many states and nodes there are.

@@ -108,6 +108,7 @@ fn sample_prints_what_the_binding_answers() {
         "nu",
         "example_4",
         "feed_and_back",
+        "tight_at_any_current",
     ];
     for name in cases {
         let path = case(&format!("{name}.case"));

@@ -65,8 +65,8 @@ impl<'a> Reading<'a> {
             Node::Complement(p) => each(&|_| self.all() & !self.with(p)),
             Node::Variable(v) => variables[usize::from(v)].clone().expect("a bound variable"),
             Node::Tau => each(&|x| x),
-            Node::Diamond(a) => each(&|x| self.sources(a, x)),
-            Node::Box(a) => each(&|x| self.all() & !self.sources(a, self.all() & !x)),
+            Node::Diamond(group) => each(&|x| self.sources(group, x)),
+            Node::Box(group) => each(&|x| self.all() & !self.sources(group, self.all() & !x)),
             Node::Or(left, right) => {
                 let (left, right) = (named(left), named(right));
                 each(&|x| value(&left, x) | value(&right, x))
@@ -109,10 +109,10 @@ impl<'a> Reading<'a> {
         (0..self.case.labels.len()).map(|s| bit(s) << s).sum()
     }
 
-    /// The states with some step of the action into the set.
-    fn sources(&self, action: u8, set: Mask) -> Mask {
+    /// The states with some step into the set whose action is in the group.
+    fn sources(&self, group: u8, set: Mask) -> Mask {
         let steps = self.case.steps.iter();
-        let into = steps.filter(|&&(_, label, to)| label == action && set >> to & 1 == 1);
+        let into = steps.filter(|&&(_, action, to)| (group >> action) & (set >> to) & 1 == 1);
         into.fold(0, |sources, &(from, _, _)| sources | 1 << from)
     }
 
@@ -160,6 +160,9 @@ fn functions(sets: usize) -> Vec<Values> {
 #[cfg(test)]
 mod tests {
     use super::*;
+    use crate::case::Triple;
+    use crate::meaning::meaning;
+    use crate::sets::number;
 
     #[test]
     fn all_monotone_functions_are_there() {
@@ -171,5 +174,64 @@ mod tests {
         // One monotone Boolean function for each state: 3 of one variable, 6 of two.
         assert_eq!(monotone(2), (4, 3));
         assert_eq!(monotone(4), (256, 6 * 6));
+    }
+
+    /// What the root yields at each set. Both meanings must agree on it and on the rounds.
+    fn both(case: &Case) -> Values {
+        let (values, rounds) = meaning_by_all_functions(case);
+        let other = meaning(case);
+        let sets = other.function.iter().map(|set| number(set) as Mask);
+        assert_eq!((sets.collect(), other.rounds), (values.clone(), rounds));
+        values
+    }
+
+    /// Two states, of which 1 has proposition 0, with the steps by the lowest and the highest
+    /// action that the bits tell.
+    fn table(bits: u8, nodes: &[Triple]) -> Case {
+        let taken = (0..8).filter(|i| bits >> i & 1 == 1);
+        Case {
+            labels: vec![0, 1],
+            steps: taken.map(|i| (i / 4, 7 * (i / 2 % 2), i % 2)).collect(),
+            nodes: nodes.to_vec(),
+            root: nodes.len() as u8 - 1,
+        }
+    }
+
+    /// State 0 has a step to itself by action 0 and one to state 1 by action 7.
+    #[test]
+    fn groups_on_one_table() {
+        let at_each_set = |kind, group| both(&table(0b1001, &[(kind, group, 0)]));
+        for (group, some, all) in [
+            (0b0000_0000, [0, 0, 0, 0], [3, 3, 3, 3]),
+            (0b0111_1110, [0, 0, 0, 0], [3, 3, 3, 3]),
+            (0b0000_0001, [0, 1, 0, 1], [2, 3, 2, 3]),
+            (0b1000_0000, [0, 0, 1, 1], [2, 2, 3, 3]),
+            (0b1000_0001, [0, 1, 1, 1], [2, 2, 2, 3]),
+            (0b1111_1111, [0, 1, 1, 1], [2, 2, 2, 3]),
+        ] {
+            assert_eq!(at_each_set(13, group), some, "group {group}");
+            assert_eq!(at_each_set(14, group), all, "group {group}");
+        }
+    }
+
+    /// Every such table, under a group by itself and within a binder.
+    #[test]
+    fn both_ways_agree_on_groups() {
+        for bits in 0..=255 {
+            for group in [0, 1, 0b0111_1110, 128, 129, 255] {
+                for (kind, operation, binder) in [(13, 8, 11), (14, 9, 12)] {
+                    let modality = (kind, group, 0);
+                    both(&table(bits, &[modality]));
+                    let body = [
+                        (2, 0, 0),
+                        (4, 0, 0),
+                        modality,
+                        (10, 2, 1),
+                        (operation, 0, 3),
+                    ];
+                    both(&table(bits, &[&body[..], &[(binder, 0, 4)]].concat()));
+                }
+            }
+        }
     }
 }

@@ -1,4 +1,5 @@
-//! A checker of case files, written from document 01 alone, which docs/SPECIFICATION.md restates.
+//! A checker of case files, written from document 01 and request 2026-01 alone, which
+//! docs/SPECIFICATION.md restates.
 //!
 //! It is the yardstick for the proved library: meant to be seen right, not to be fast, and to
 //! work by other means than the proved code wherever there is a choice.

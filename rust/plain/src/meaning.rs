@@ -65,8 +65,8 @@ impl<'a> Scope<'a> {
             Node::Complement(p) => self.each(|_, s| !model.has(s, p)),
             Node::Variable(variable) => self.variables[&variable].clone(),
             Node::Tau => self.each(|x, s| x[s]),
-            Node::Diamond(a) => self.each(|x, s| model.successors(s, a).iter().any(|&t| x[t])),
-            Node::Box(a) => self.each(|x, s| model.successors(s, a).iter().all(|&t| x[t])),
+            Node::Diamond(group) => self.each(|x, s| model.successors_by(s, group).any(|t| x[t])),
+            Node::Box(group) => self.each(|x, s| model.successors_by(s, group).all(|t| x[t])),
             Node::Or(left, right) => self.join(left, right, |l, r| l || r),
             Node::And(left, right) => self.join(left, right, |l, r| l && r),
             Node::Chop(left, right) => {

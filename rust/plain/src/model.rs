@@ -44,4 +44,10 @@ impl Model {
     pub fn successors(&self, state: usize, action: u8) -> &[usize] {
         &self.successors[state][usize::from(action)]
     }
+
+    /// Where the steps of the group's actions from the state go: bit i is action i.
+    pub fn successors_by(&self, state: usize, group: u8) -> impl Iterator<Item = usize> + '_ {
+        let actions = (0..8).filter(move |action| group >> action & 1 == 1);
+        actions.flat_map(move |action| self.successors(state, action).iter().copied())
+    }
 }

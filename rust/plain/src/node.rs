@@ -17,11 +17,14 @@ pub mod kinds {
     pub const CHOP: u8 = 10;
     pub const MU: u8 = 11;
     pub const NU: u8 = 12;
+    pub const GROUP_DIAMOND: u8 = 13;
+    pub const GROUP_BOX: u8 = 14;
 
     /// How many there are: the bytes below this one are kinds.
-    pub const COUNT: usize = 13;
+    pub const COUNT: usize = 15;
 
-    /// The kinds of q in law 3: they yield the same whatever set is given.
+    /// The kinds of q in law 3: they yield the same whatever set is given. So do kinds 13 and 14
+    /// with the empty group, but the law goes by the kind and leaves them out.
     pub const CONSTANT: [u8; 4] = [TRUE, FALSE, PROPOSITION, COMPLEMENT];
 
     /// How many values A can have, 1 where it is unused; `None` where it is a node, or for no kind.
@@ -30,6 +33,7 @@ pub mod kinds {
             TRUE | FALSE | TAU => Some(1),
             PROPOSITION | COMPLEMENT | DIAMOND | BOX => Some(8),
             VARIABLE | MU | NU => Some(16),
+            GROUP_DIAMOND | GROUP_BOX => Some(256),
             _ => None,
         }
     }
@@ -82,7 +86,9 @@ pub enum Node {
     Complement(u8),
     Variable(u8),
     Tau,
+    /// Some step whose action is in the group leads into the set: bit i of the group is action i.
     Diamond(u8),
+    /// All such steps do.
     Box(u8),
     Or(usize, usize),
     And(usize, usize),
@@ -97,6 +103,12 @@ impl Node {
     pub fn read(triple: Triple, number: usize) -> Option<Node> {
         let (kind, a, b) = triple;
         let shape = Shape::of(triple);
+        let a_fits = values_of_a(kind).is_none_or(|values| usize::from(a) < values);
+        let b_fits = b == 0 || shape != Shape::Leaf;
+        let names_lower = shape.named().iter().all(|&named| named < number);
+        if !(a_fits && b_fits && names_lower) {
+            return None;
+        }
         let node = match (kind, shape) {
             (TRUE, _) => Node::True,
             (FALSE, _) => Node::False,
@@ -104,8 +116,11 @@ impl Node {
             (COMPLEMENT, _) => Node::Complement(a),
             (VARIABLE, _) => Node::Variable(a),
             (TAU, _) => Node::Tau,
-            (DIAMOND, _) => Node::Diamond(a),
-            (BOX, _) => Node::Box(a),
+            // One action is a group of its own.
+            (DIAMOND, _) => Node::Diamond(1 << a),
+            (BOX, _) => Node::Box(1 << a),
+            (GROUP_DIAMOND, _) => Node::Diamond(a),
+            (GROUP_BOX, _) => Node::Box(a),
             (OR, Shape::Two(left, right)) => Node::Or(left, right),
             (AND, Shape::Two(left, right)) => Node::And(left, right),
             (CHOP, Shape::Two(left, right)) => Node::Chop(left, right),
@@ -113,10 +128,7 @@ impl Node {
             (NU, Shape::Binder(variable, body)) => Node::Nu(variable, body),
             _ => return None,
         };
-        let a_fits = values_of_a(kind).is_none_or(|values| usize::from(a) < values);
-        let b_fits = b == 0 || shape != Shape::Leaf;
-        let names_lower = shape.named().iter().all(|&named| named < number);
-        (a_fits && b_fits && names_lower).then_some(node)
+        Some(node)
     }
 }
 
@@ -146,14 +158,28 @@ mod tests {
         assert_eq!(read, Vec::from_iter(0..COUNT as u8));
     }
 
-    /// For each kind the highest A and B of node 1.
+    /// For each kind the highest A of node 1; its B can only be 0.
     #[test]
     fn highest_operands() {
-        let a = [0, 0, 7, 7, 15, 0, 7, 7, 0, 0, 0, 15, 15];
-        for (kind, a) in (0..).zip(a) {
-            assert!(Node::read((kind, a, 0), 1).is_some(), "kind {kind}");
-            assert_eq!(Node::read((kind, a + 1, 0), 1), None, "kind {kind}");
-            assert_eq!(Node::read((kind, a, 1), 1), None, "kind {kind}");
+        let highest = [0, 0, 7, 7, 15, 0, 7, 7, 0, 0, 0, 15, 15, 255, 255];
+        assert_eq!(highest.len(), COUNT);
+        for (kind, highest) in (0..).zip(highest) {
+            for a in 0..=255 {
+                let read = Node::read((kind, a, 0), 1).is_some();
+                assert_eq!(read, a <= highest, "kind {kind}, {a}");
+            }
+            assert_eq!(Node::read((kind, highest, 1), 1), None, "kind {kind}");
         }
+    }
+
+    #[test]
+    fn an_action_is_the_group_of_its_bit() {
+        let read = |kind, a| Node::read((kind, a, 0), 0);
+        for action in 0..8 {
+            assert_eq!(read(6, action), read(13, 1 << action));
+            assert_eq!(read(7, action), read(14, 1 << action));
+        }
+        assert_eq!(read(13, 0b1000_0001), Some(Node::Diamond(0b1000_0001)));
+        assert_eq!(read(14, 0), Some(Node::Box(0)));
     }
 }

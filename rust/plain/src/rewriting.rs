@@ -70,9 +70,10 @@ mod tests {
         Ok((case.nodes, case.root))
     }
 
+    // Operands that would be numbers of nodes, the rewritten one among them, if leaves named any.
     const A: Triple = (6, 1, 0);
-    const B: Triple = (6, 2, 0);
-    const C: Triple = (6, 3, 0);
+    const B: Triple = (13, 4, 0);
+    const C: Triple = (14, 5, 0);
 
     #[test]
     fn laws_that_drop_a_node() {
@@ -84,6 +85,9 @@ mod tests {
         assert_eq!(at_4(2, nodes), top(nodes, 3));
         let nodes = [A, (3, 7, 0), B, C, (10, 1, 3)];
         assert_eq!(at_4(3, nodes), top(nodes, 1));
+        for other in [A, B, C, (13, 0, 0), (14, 0, 0)] {
+            assert_eq!(at_4(3, [A, other, B, C, (10, 1, 3)]), Err(11));
+        }
         let nodes = [A, B, C, C, (8, 3, 3)];
         assert_eq!(at_4(8, nodes), top(nodes, 3));
         assert_eq!(at_4(8, [A, B, C, C, (8, 2, 3)]), Err(11));

@@ -34,9 +34,9 @@ pub fn unused_byte(rng: &mut Rng) -> Damaged {
     damaged(write(&case), 5, place)
 }
 
-/// A proposition, variable or action beyond the last one.
+/// A proposition, variable or action beyond the last one. No group is: it can be any byte.
 pub fn range(rng: &mut Rng) -> Damaged {
-    let (mut case, place) = with_node(rng, |node| matches!(values_of_a(node.0), Some(2..)));
+    let (mut case, place) = with_node(rng, |node| matches!(values_of_a(node.0), Some(2..=255)));
     let node = &mut case.nodes[place];
     let values = values_of_a(node.0).expect("A is no node");
     node.1 = beyond(rng, values);
@@ -76,4 +76,41 @@ pub fn free_variable(rng: &mut Rng) -> Damaged {
     let open: Vec<usize> = all.filter(|&j| drawn.free[j] != 0).collect();
     drawn.case.root = rng.pick(&open) as u8;
     damaged(write(&drawn.case), 7, 0)
+}
+
+#[cfg(test)]
+mod tests {
+    use super::*;
+    use crate::groups::has_group;
+
+    /// The nodes at the places of so many faults.
+    fn faults(damage: fn(&mut Rng) -> Damaged, count: usize) -> Vec<Triple> {
+        let mut rng = Rng::new(1);
+        let fault = |_| {
+            let Damaged { file, refusal } = damage(&mut rng);
+            // The rule begins where its pair says.
+            let rule = usize::from(u16::from_le_bytes([file[8], file[9]]));
+            let node = &file[rule + 3 * refusal.place..];
+            (node[0], node[1], node[2])
+        };
+        (0..count).map(fault).collect()
+    }
+
+    #[test]
+    fn the_first_byte_that_is_no_kind() {
+        let next = kinds::COUNT as u8;
+        assert_eq!(next, 15);
+        let faults = faults(kind, 200);
+        assert!(faults.iter().all(|node| node.0 >= next));
+        assert!(faults.iter().filter(|node| node.0 == next).count() >= 50);
+    }
+
+    /// B is wrong, and A is right whatever it is.
+    #[test]
+    fn the_unused_byte_of_a_group() {
+        let faults = faults(unused_byte, 500);
+        let groups = || faults.iter().filter(|&&node| has_group(node));
+        assert!(groups().all(|node| node.2 > 0));
+        assert!(groups().count() >= 50);
+    }
 }

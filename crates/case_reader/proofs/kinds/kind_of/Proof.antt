@@ -1,6 +1,7 @@
 -- `case_reader::kinds::kind_of` meets its contract: each number is compared with the table's.
 use Rattle.case_model.specs.Kinds.{kinds, kindAt}
-use Rattle.case_reader.proofs.Knowing.{known, unknown}
+use native.Mathlib.Omega.{arith}
+use Rattle.case_reader.proofs.Knowing.{known, unknown, past}
 use Rattle.case_reader.proofs.kinds.kind_of.Statement.{statement}
 use Rattle.case_reader.proofs.kinds.kind_of.Tie as tie
 
@@ -57,9 +58,19 @@ unfolding kindAt kinds
 returns-13 c = known (c .match .keys13)
 
 returns-14 : tie.Need-returns-14
-returns-14 c =
-    let (((((((((((((u, h0), h1), h2), h3), h4), h5), h6), h7), h8), h9), h10), h11), h12) = c .match .rest in
-    unknown _ h0 h1 h2 h3 h4 h5 h6 h7 h8 h9 h10 h11 h12
+unfolding kindAt kinds
+returns-14 c = known (c .match .keys14)
+
+returns-15 : tie.Need-returns-15
+unfolding kindAt kinds
+returns-15 c = known (c .match .keys15)
+
+returns-16 : tie.Need-returns-16
+unfolding kinds
+returns-16 c =
+    let (((((((((((((((u, h0), h1), h2), h3), h4), h5), h6), h7), h8), h9), h10), h11), h12), h13), h14) = c .match .rest in
+    let low = past (past (past (past (past (past (past (omega arith) h0) h1) h2) h3) h4) h5) h6 in
+    unknown _ (past (past (past (past (past (past (past (past low h7) h8) h9) h10) h11) h12) h13) h14)
 
 pub kind-of-spec : {M : Type 1} → statement M
 kind-of-spec =
@@ -78,4 +89,6 @@ kind-of-spec =
     returns-11
     returns-12
     returns-13
-    returns-14)
+    returns-14
+    returns-15
+    returns-16)

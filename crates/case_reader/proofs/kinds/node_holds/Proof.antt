@@ -3,6 +3,7 @@ use mathlib.Core.Bool.{_&&_}
 use mathlib.Core.Path.{ap, _∙_}
 use borrow.Author.Needs.{needs}
 use lib.Dec.{ltb}
+use lib.ListN.{length}
 use Rattle.case_model.specs.Kinds.{Kind, fits, kinds}
 use Rattle.case_reader.specs.Read.{triple}
 use Rattle.case_reader.proofs.kinds.node_holds.Statement.{statement}
@@ -19,7 +20,7 @@ unfolding kinds
 returns c =
     let a = c .before .before .before .args in
     let t = triple (a .t) in
-    ap (λ b. ltb (t .0) 13 && b) (c .before .operands-fit .ensures
+    ap (λ b. ltb (t .0) (length kinds) && b) (c .before .operands-fit .ensures
     ∙ ap (λ (κ : Kind). fits (κ .first) (a .j) (t .1) && fits (κ .second) (a .j) (t .2)) (c .before .before .kind-of .ensures))
 
 pub node-holds-spec : {M : Type 1} → statement M

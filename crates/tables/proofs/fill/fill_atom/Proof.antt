@@ -2,10 +2,17 @@
 use mathlib.Core.Path.{refl}
 use native.Mathlib.Omega.{arith}
 use Rattle.tables.proofs.Sizes.{size-some}
-use Rattle.tables.proofs.Values.{operand-under, atom-holds, top-holds, bottom-holds, proposition-holds, complement-holds, tau-holds}
+use Rattle.tables.proofs.Values.{operand-under, atom-holds, top-holds, bottom-holds, proposition-holds, complement-holds, tau-holds, action-holds}
 use borrow.Author.Needs.{needs}
 use Rattle.tables.proofs.fill.fill_atom.Statement.{statement}
 use Rattle.tables.proofs.fill.fill_atom.Tie as tie
+
+-- where the arms of the modalities begin
+abbrev start-at-match : tie.At-match-keys6 → tie.Start
+start-at-match c = c .before .before .before
+
+abbrev start-at-match2 : tie.At-match-keys7 → tie.Start
+start-at-match2 c = c .before .before .before
 
 element-copy-out-size : tie.Need-element-copy-out-size
 element-copy-out-size c = search needs
@@ -71,23 +78,27 @@ identity-requires c κs =
     let st = at-full .before .before .before in
     (st .pre .2, size-some (st .pre .0) .1)
 
-enum-told-6 : tie.Need-enum-told-6
-enum-told-6 c = search needs
+enum-known-atom : tie.Need-enum-known-atom
+enum-known-atom c = search needs
 
-diamond-requires : tie.Need-diamond-requires
-diamond-requires c κs =
-    let at-full = c .before .before in
-    let st = at-full .before .before .before in
-    (st .pre .0, operand-under (st .args .a) (c .before .enum-told6 .given .1) (st .pre .1) refl, st .pre .2)
+shl-modality : tie.Need-shl-modality
+shl-modality c =
+    let at-atom = c .before .before in
+    let st = start-at-match (at-atom .before) in
+    omega (arith, operand-under (st .args .a) (at-atom .atom .given .1) (st .pre .1) refl)
 
-enum-told-7 : tie.Need-enum-told-7
-enum-told-7 c = search needs
+modality-requires : tie.Need-modality-requires
+modality-requires c κs =
+    let st = start-at-match (c .before .before .before) in
+    (st .pre .0, st .pre .2)
 
-boxed-requires : tie.Need-boxed-requires
-boxed-requires c κs =
-    let at-full = c .before .before in
-    let st = at-full .before .before .before in
-    (st .pre .0, operand-under (st .args .a) (c .before .enum-told7 .given .1) (st .pre .1) refl, st .pre .2)
+enum-known-atom-2 : tie.Need-enum-known-atom-2
+enum-known-atom-2 c = search needs
+
+modality-requires-2 : tie.Need-modality-requires-2
+modality-requires-2 c κs =
+    let st = start-at-match2 (c .before .before .before) in
+    (st .pre .0, st .pre .2)
 
 same-length : tie.Need-same-length
 same-length c = search needs
@@ -153,22 +164,21 @@ same-length-6 c = search needs
 
 returns-6 : tie.Need-returns-6
 returns-6 c =
-    let at-diamond = c .before .before in
-    let at-enum-told6 = at-diamond .before .before in
-    let at-full = at-enum-told6 .before in
-    let st = at-full .before .before .before in
-    atom-holds (st .pre .0) (st .args .a) (at-enum-told6 .enum-told6 .given .1) (at-diamond .diamond .ensures)
+    let at-modality = c .before .before in
+    let at-atom = at-modality .before .before .before in
+    let st = start-at-match (at-atom .before) in
+    let low = operand-under (st .args .a) (at-atom .atom .given .1) (st .pre .1) refl in
+    action-holds (st .pre .0) (st .args .a) (at-atom .atom .given .1) low (at-modality .modality .ensures)
 
 same-length-7 : tie.Need-same-length-7
 same-length-7 c = search needs
 
 returns-7 : tie.Need-returns-7
 returns-7 c =
-    let at-boxed = c .before .before in
-    let at-enum-told7 = at-boxed .before .before in
-    let at-full = at-enum-told7 .before in
-    let st = at-full .before .before .before in
-    atom-holds (st .pre .0) (st .args .a) (at-enum-told7 .enum-told7 .given .1) (at-boxed .boxed .ensures)
+    let at-modality2 = c .before .before in
+    let at-atom2 = at-modality2 .before .before .before in
+    let st = start-at-match2 (at-atom2 .before) in
+    atom-holds (st .pre .0) (st .args .a) (at-atom2 .atom2 .given .1) (at-modality2 .modality2 .ensures)
 
 pub fill-atom-spec : {M : Type 1} → statement M
 fill-atom-spec =
@@ -190,10 +200,11 @@ fill-atom-spec =
     constant-requires-4
     enum-told-5
     identity-requires
-    enum-told-6
-    diamond-requires
-    enum-told-7
-    boxed-requires
+    enum-known-atom
+    shl-modality
+    modality-requires
+    enum-known-atom-2
+    modality-requires-2
     same-length
     returns
     same-length-2
