@@ -106,7 +106,7 @@ def measure():
     for what, name in [("ratios", "ratios.tsv"), ("groups", "groups.tsv"), ("growth", "performance.tsv")]:
         subprocess.run(["cargo", "run", *CARGO, "--", what, f"docs/{name}"], cwd=root, check=True)
     after = os.getloadavg()[0]
-    fill("machine", [f"{os.cpu_count()} cores; load average {before:.1f} before the run and {after:.1f} after it, of which 1 is the run's own."])
+    fill("machine", [f"{os.cpu_count()} cores; load average {before:.1f} before the run, and {after:.1f} after it with the run's own 1."])
 
 
 if __name__ == "__main__":

@@ -11,7 +11,7 @@
  * of its own. They may share a file that nobody writes.
  *
  * Stack. Every call fits in a thread with HOIDRUL_STACK bytes of stack. Threads of 18 KiB were enough in tests, and
- * threads of 17 KiB were not: judging took at most 13,336 bytes from its caller's frame, the other functions at most 5,392.
+ * threads of 17 KiB were not: judging took 13,256 bytes from its caller's frame, the other functions at most 5,392.
  *
  * Time. Judging can take hours: a binder takes up to n * 2^n rounds on n states, and nested binders of alternating
  * kinds multiply theirs. Only ending its thread or process stops a call. The other functions end within about a

@@ -5,11 +5,12 @@ use mathlib.Core.Bool.{Bool, true, false}
 use mathlib.Core.Path.{_≡_, refl, ap, _∙_}
 use native.Mathlib.Omega.{arith}
 use lib.ListN.{length}
+use Rattle.flc.specs.Sets.{singleton}
 use Rattle.flc.specs.Formula.{Atom, top, bottom, tau, prop, nprop, modal, Op, or, and, chop, atom, var}
 use Rattle.flc.specs.Nodes.{two, bind}
-use Rattle.case_model.specs.Limits.{variables}
+use Rattle.case_model.specs.Limits.{variables, groups}
 use Rattle.case_model.specs.Kinds.{Triple, Operand, unused, under, lowerNode, Kind, leafKind, twoKind, binderKind}
-use Rattle.case_model.specs.Kinds.{only, kinds, kindOf, kindAt, nodeOf, isBinder}
+use Rattle.case_model.specs.Kinds.{kinds, kindOf, kindAt, nodeOf, isBinder}
 
 -- what a leaf's operand can be: it names no node, and it is a byte
 abbrev pub OfLeaf : Operand → Type 0
@@ -32,15 +33,15 @@ line (suc (suc zero)) = constant prop (under 8) (omega arith)
 line (suc (suc (suc zero))) = constant nprop (under 8) (omega arith)
 line (suc (suc (suc (suc zero)))) = variable
 line (suc (suc (suc (suc (suc zero))))) = constant (λ a. tau) unused tt
-line (suc (suc (suc (suc (suc (suc zero)))))) = constant (λ a. modal true (only a)) (under 8) (omega arith)
-line (suc (suc (suc (suc (suc (suc (suc zero))))))) = constant (λ a. modal false (only a)) (under 8) (omega arith)
+line (suc (suc (suc (suc (suc (suc zero)))))) = constant (λ a. modal true (singleton a)) (under 8) (omega arith)
+line (suc (suc (suc (suc (suc (suc (suc zero))))))) = constant (λ a. modal false (singleton a)) (under 8) (omega arith)
 line (suc (suc (suc (suc (suc (suc (suc (suc zero)))))))) = pair or
 line (suc (suc (suc (suc (suc (suc (suc (suc (suc zero))))))))) = pair and
 line (suc (suc (suc (suc (suc (suc (suc (suc (suc (suc zero)))))))))) = pair chop
 line (suc (suc (suc (suc (suc (suc (suc (suc (suc (suc (suc zero))))))))))) = binder true
 line (suc (suc (suc (suc (suc (suc (suc (suc (suc (suc (suc (suc zero)))))))))))) = binder false
-line (suc (suc (suc (suc (suc (suc (suc (suc (suc (suc (suc (suc (suc (zero)))))))))))))) = constant (modal true) (under 256) (omega arith)
-line (suc (suc (suc (suc (suc (suc (suc (suc (suc (suc (suc (suc (suc (suc (zero))))))))))))))) = constant (modal false) (under 256) (omega arith)
+line (suc (suc (suc (suc (suc (suc (suc (suc (suc (suc (suc (suc (suc zero))))))))))))) = constant (modal true) (under groups) (omega arith)
+line (suc (suc (suc (suc (suc (suc (suc (suc (suc (suc (suc (suc (suc (suc zero)))))))))))))) = constant (modal false) (under groups) (omega arith)
 line (suc (suc (suc (suc (suc (suc (suc (suc (suc (suc (suc (suc (suc (suc (suc k))))))))))))))) = constant (λ a. bottom) unused tt
 
 -- how many there are

@@ -1,10 +1,11 @@
 -- The table of kinds, the one place that knows their numbers: docs/SPECIFICATION.md, clauses 1.7 and 1.8.
 -- What a triple is otherwise goes by its node, which names no node, two nodes, or is a binder (Rattle.flc.specs.Nodes).
-use Prim.Native.Nat.{ℕ, _^_}
+use Prim.Native.Nat.{ℕ}
 use mathlib.Core.Bool.{Bool, true, false, _&&_}
 use mathlib.Core.List.{List, [], _∷_}
 use lib.Dec.{eqb, ltb}
 use lib.ListN.{length, getD}
+use Rattle.flc.specs.Sets.{singleton}
 use Rattle.flc.specs.Formula.{Formula, Op, or, and, chop, atom, var, top, bottom, tau, prop, nprop, modal, actions}
 use Rattle.flc.specs.Nodes.{Node, leaf, two, bind}
 use Rattle.case_model.specs.Limits.{propositions, variables, groups}
@@ -33,13 +34,9 @@ pub record Kind : Type 0 where
 abbrev pub leafKind : (ℕ → Formula) → Operand → Kind
 leafKind p x = record { node = λ a b. leaf (p a); first = x; second = unused }
 
--- clauses 2.5 and 2.6: some step, or all, by an action of the group that the operand stands for
+-- clauses 2.5 and 2.6: some step, or all, by an action of the group that the operand stands for; an action stands for the group that has it alone
 abbrev pub modalKind : Bool → (ℕ → ℕ) → Operand → Kind
 modalKind d group x = leafKind (λ a. atom (modal d (group a))) x
-
--- the group that has one action alone
-abbrev pub only : ℕ → ℕ
-only a = 2 ^ a
 
 abbrev pub twoKind : Op → Kind
 twoKind o = record { node = two o; first = lowerNode; second = lowerNode }
@@ -54,7 +51,7 @@ kinds =
     ∷ leafKind (λ a. atom (prop a)) (under propositions) ∷ leafKind (λ a. atom (nprop a)) (under propositions)
     ∷ leafKind var (under variables)
     ∷ leafKind (λ a. atom tau) unused
-    ∷ modalKind true only (under actions) ∷ modalKind false only (under actions)
+    ∷ modalKind true singleton (under actions) ∷ modalKind false singleton (under actions)
     ∷ twoKind or ∷ twoKind and ∷ twoKind chop
     ∷ binderKind true ∷ binderKind false
     ∷ modalKind true (λ a. a) (under groups) ∷ modalKind false (λ a. a) (under groups) ∷ []

@@ -1,6 +1,7 @@
 pub mod Areas
 pub mod Limits
 pub mod Kinds
+pub mod ModalKinds
 pub mod Bytes
 pub mod Case
 pub mod Rows

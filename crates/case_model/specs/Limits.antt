@@ -1,5 +1,6 @@
 -- How large the parts of a case may be: docs/SPECIFICATION.md, section 1.
-use Prim.Native.Nat.{ℕ}
+use Prim.Native.Nat.{ℕ, _^_}
+use Rattle.flc.specs.Formula.{actions}
 
 -- clause 1.1: a pair for each of three sections
 abbrev pub sections : ℕ
@@ -16,7 +17,7 @@ abbrev pub variables : ℕ
 variables = 16
 
 abbrev pub groups : ℕ
-groups = 256
+groups = 2 ^ actions
 
 -- what a judge may set for itself: the length that no file exceeds, and how many states there can be
 pub record Limits : Type 0 where

@@ -1,9 +1,10 @@
 -- The line of the table of kinds that each kind of the code is: docs/SPECIFICATION.md, clause 1.7.
 use Prim.Native.Nat.{ℕ}
+use Rattle.flc.specs.Sets.{singleton}
 use Rattle.flc.specs.Formula.{Atom, Op, or, and, chop, atom, var, top, bottom, tau, prop, nprop, modal, actions}
 use Rattle.case_model.specs.Limits.{propositions, variables, groups}
 use Rattle.case_model.specs.Kinds as table
-use Rattle.case_model.specs.Kinds.{Operand, unused, under, leafKind, only, twoKind, binderKind}
+use Rattle.case_model.specs.Kinds.{Operand, unused, under, leafKind, twoKind, binderKind}
 use Rattle.case_reader.specs.declared.kinds.Atom as code
 use Rattle.case_reader.specs.declared.kinds.Atom.the-variants as atoms
 use Rattle.case_reader.specs.declared.kinds.Operator.{Operator}
@@ -17,7 +18,7 @@ atomWith atoms.Bottom a = bottom
 atomWith atoms.Proposition a = prop a
 atomWith atoms.Complement a = nprop a
 atomWith atoms.Tau a = tau
-atomWith (atoms.Action d) a = modal d (only a)
+atomWith (atoms.Action d) a = modal d (singleton a)
 atomWith (atoms.Group d) a = modal d a
 
 abbrev pub opOf : Operator → Op

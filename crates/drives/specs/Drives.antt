@@ -1,5 +1,5 @@
--- The starred drives of docs/SPECIFICATION.md, clause 10.1, as one table, and what each of them claims.
--- A set is a number: {3, 7} is 8 + 128 = 136, {3, 6} is 72, and all of n states is 2 ^ n - 1. The drives without a star are tests.
+-- The drives of docs/SPECIFICATION.md, clause 10.1, as one table, and what each of them claims.
+-- A set is a number: {3, 7} is 8 + 128 = 136, {3, 6} is 72, and all of n states is 2 ^ n - 1. Those of clause 10.2 are tests.
 use mathlib.Core.Path.{_≡_}
 use mathlib.Core.List.{List, [], _∷_}
 use Prim.Native.Nat.{ℕ}
@@ -35,8 +35,8 @@ abbrev pub Right : Drive → Type 0
 Right d = Shows d (read (d .file))
 
 -- a single node of kind k with operand a, on two states: 0 steps to itself by action 0 and to 1 by action 7, and 1 steps to 0 by action 3
-abbrev pub onTwo : ℕ → ℕ → List (ℕ × ℕ) → Drive
-onTwo k a v = record {
+abbrev pub leafOnTwoStates : ℕ → ℕ → List (ℕ × ℕ) → Drive
+leafOnTwoStates k a v = record {
   file =
       12 ∷ 0 ∷ 2 ∷ 0 ∷ 14 ∷ 0 ∷ 9 ∷ 0 ∷ 23 ∷ 0 ∷ 4 ∷ 0
       ∷ 0 ∷ 0
@@ -168,12 +168,12 @@ drives =
       approximants = [];
     } ∷
     -- the empty group: under 13 no state and under 14 every state, of each set, though there are steps
-    onTwo 13 0 ((0, 0) ∷ (1, 0) ∷ (2, 0) ∷ (3, 0) ∷ []) ∷
-    onTwo 14 0 ((0, 3) ∷ (1, 3) ∷ (2, 3) ∷ (3, 3) ∷ []) ∷
+    leafOnTwoStates 13 0 ((0, 0) ∷ (1, 0) ∷ (2, 0) ∷ (3, 0) ∷ []) ∷
+    leafOnTwoStates 14 0 ((0, 3) ∷ (1, 3) ∷ (2, 3) ∷ (3, 3) ∷ []) ∷
     -- the group {0, 7}: state 0 steps by it to 0 and to 1, state 1 has no such step
-    onTwo 13 129 ((0, 0) ∷ (1, 1) ∷ (2, 1) ∷ (3, 1) ∷ []) ∷
-    onTwo 14 129 ((0, 2) ∷ (1, 2) ∷ (2, 2) ∷ (3, 3) ∷ []) ∷
+    leafOnTwoStates 13 129 ((0, 0) ∷ (1, 1) ∷ (2, 1) ∷ (3, 1) ∷ []) ∷
+    leafOnTwoStates 14 129 ((0, 2) ∷ (1, 2) ∷ (2, 2) ∷ (3, 3) ∷ []) ∷
     -- the group {7} under 13, and action 7 under 6: the same of each set
-    onTwo 13 128 ((0, 0) ∷ (1, 0) ∷ (2, 1) ∷ (3, 1) ∷ []) ∷
-    onTwo 6 7 ((0, 0) ∷ (1, 0) ∷ (2, 1) ∷ (3, 1) ∷ []) ∷
+    leafOnTwoStates 13 128 ((0, 0) ∷ (1, 0) ∷ (2, 1) ∷ (3, 1) ∷ []) ∷
+    leafOnTwoStates 6 7 ((0, 0) ∷ (1, 0) ∷ (2, 1) ∷ (3, 1) ∷ []) ∷
     []

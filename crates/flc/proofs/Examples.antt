@@ -35,7 +35,7 @@ turn : Table
 unfolding both either
 turn = record { n = 2; label = λ s. 0; step = λ s a t. both (eqb s 0) (either (both (eqb a 0) (eqb t 0)) (both (eqb a 7) (eqb t 1))) }
 
--- ---- atoms
+-- ---- atoms. As a group 1 is {0}, 2 is {1}, 128 is {7} and 129 is {0, 7}
 
 -- without an a-step [a] holds and ⟨a⟩ does not
 box-no-step : value still (atom (modal false 1)) 0 ≡ 1

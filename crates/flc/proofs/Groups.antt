@@ -3,17 +3,13 @@
 use mathlib.Core.Path.{_≡_, sym, ap, subst, fun-ext}
 use mathlib.Core.Logic.{_↔_}
 use mathlib.Core.Bool.{Bool, true, false}
-use Prim.Native.Nat.{ℕ, _^_, _<_}
+use Prim.Native.Nat.{ℕ, _<_}
 use lib.Dec.{T, eqb→eq, eqb-refl}
-use Rattle.flc.specs.Sets.{among, has, setOf}
+use Rattle.flc.specs.Sets.{among, has, singleton, setOf}
 use Rattle.flc.specs.Formula.{Table, actions, modal, stepsBy, meanAtom}
+use Rattle.flc.specs.Modalities.{Leads}
 use Rattle.flc.proofs.Tests.{bool-ext, both-left, both-right, both-mk, implies-use, implies-mk, forAll-use, forAll-mk, forSome-use, forSome-mk}
 use Rattle.flc.proofs.Masks.{has-setOf, has-single}
-
--- from s some step by an action of the group g leads into x; or all of them do
-abbrev pub Leads : Bool → Table → ℕ → ℕ → ℕ → Type 0
-Leads true L g x s = (a t : ℕ) × (a < actions) × (t < L .n) × T (has g a) × T (L .step s a t) × T (has x t)
-Leads false L g x s = (a t : ℕ) → a < actions → t < L .n → T (has g a) → T (L .step s a t) → T (has x t)
 
 leads-iff : (d : Bool) (L : Table) (g x s : ℕ) → T (among d (L .n) (stepsBy L g s) (has x)) ↔ Leads d L g x s
 unfolding among stepsBy
@@ -37,13 +33,14 @@ unfolding meanAtom
 modal-iff d L g x s k = subst (λ b. T b ↔ Leads d L g x s) (sym (has-setOf (L .n) _ s k)) (leads-iff d L g x s)
 
 -- the steps of the group of one action
-single-steps : (L : Table) (a s t : ℕ) → a < actions → stepsBy L (2 ^ a) s t ≡ L .step s a t
+single-steps : (L : Table) (a s t : ℕ) → a < actions → stepsBy L (singleton a) s t ≡ L .step s a t
 unfolding stepsBy
 single-steps L a s t i = bool-ext _ _
     (λ u. let (b, k, e) = forSome-use actions _ u in
     subst (λ b. T (L .step s b t)) (sym (eqb→eq a b (subst T (has-single a b) (both-left _ _ e)))) (both-right _ _ e))
     (λ w. forSome-mk actions _ a i (both-mk _ _ (subst T (sym (has-single a a)) (eqb-refl a)) w))
 
-pub single-modal : (d : Bool) (L : Table) (a x : ℕ) → a < actions → meanAtom L (modal d (2 ^ a)) x ≡ setOf (L .n) (λ s. among d (L .n) (L .step s a) (has x))
+pub single-modal : (d : Bool) (L : Table) (a x : ℕ) → a < actions
+    → meanAtom L (modal d (singleton a)) x ≡ setOf (L .n) (λ s. among d (L .n) (L .step s a) (has x))
 unfolding meanAtom
 single-modal d L a x i = ap (setOf (L .n)) (fun-ext λ s. ap (λ p. among d (L .n) p (has x)) (fun-ext λ t. single-steps L a s t i))

@@ -31,11 +31,12 @@ pub data Formula : Type 0 where
   op : Op → Formula → Formula → Formula
   fix : Bool → ℕ → Formula → Formula
 
--- clauses 2.5 and 2.6: a transition from s to t whose action is in the group g
+-- clauses 2.5 and 2.6: there is a transition from s to t whose action is in the group g
 unfoldable pub stepsBy : Table → ℕ → ℕ → ℕ → Bool
 stepsBy L g s t = forSome actions (λ a. both (has g a) (L .step s a t))
 
--- clauses 2.2, 2.3, 2.5 and 2.6: what is constant, τ, and at the set x the modalities: of the states entered by the group some, or all, are in x
+-- clauses 2.2, 2.3, 2.5 and 2.6, at the set x: what is constant; τ; and the modalities, where of the states that s steps to by the group some (⟨g⟩)
+-- or all ([g]) are in x
 unfoldable pub meanAtom : Table → Atom → Fun
 meanAtom L top x = setOf (L .n) (λ s. true)
 meanAtom L bottom x = setOf (L .n) (λ s. false)

@@ -1,6 +1,7 @@
 pub mod Sets
 pub mod Functions
 pub mod Formula
+pub mod Modalities
 pub mod Order
 pub mod Iterates
 pub mod Nodes

@@ -41,6 +41,10 @@ abbrev pub bit : Bool → ℕ
 bit true = 1
 bit false = 0
 
+-- the set that has k alone
+abbrev pub singleton : ℕ → ℕ
+singleton k = 2 ^ k
+
 -- the set of the states below n of which p holds
 unfoldable pub setOf : ℕ → (ℕ → Bool) → ℕ
 setOf zero p = 0

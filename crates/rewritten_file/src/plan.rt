@@ -54,12 +54,11 @@ fn rename(shape: Shape, j: usize, t: Triple) -> Triple
     ensures { λ r. ⌜ triple r ≡ renamed (named j shape) (triple t) ⌝ }
 {
     let kind = kind_of(t);
-    let second = name(shape, j, t.2);
     match kind {
         Kind::Atom(_) => t,
         Kind::Variable => t,
-        Kind::Two(_) => Triple(t.0, name(shape, j, t.1), second),
-        Kind::Binder(_) => Triple(t.0, t.1, second),
+        Kind::Two(_) => Triple(t.0, name(shape, j, t.1), name(shape, j, t.2)),
+        Kind::Binder(_) => Triple(t.0, t.1, name(shape, j, t.2)),
     }
 }
 

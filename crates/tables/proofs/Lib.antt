@@ -1,5 +1,6 @@
 pub mod Comparing
 pub mod Digits
 pub mod Sizes
+pub mod Gathering
 pub mod Modalities
 pub mod Values

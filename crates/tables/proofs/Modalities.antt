@@ -1,7 +1,7 @@
--- The states with a step of a group to a state, action by action; a modality at a set with one state more or less; where it begins; and the loop
--- that doubles a table of it. A state more is one test more in "some step" and one less in "all steps".
+-- A modality at a set with one state more or less; where it begins; and the loop that doubles a table of it.
+-- A state more is one test more in "some step" and one less in "all steps".
 use Prim.Native.Nat.{ℕ, suc, _+_, _-_, _*_, _^_, _≤_, _<_}
-use mathlib.Core.Bool.{Bool, true, false, not, cond}
+use mathlib.Core.Bool.{Bool, true, false, not}
 use mathlib.Core.List.{List}
 use mathlib.Core.Path.{_≡_, refl, sym, ap, ap₂, _∙_, subst}
 use native.Mathlib.Nat.{add-comm, add-zero, zero-add}
@@ -10,54 +10,18 @@ use native.Mathlib.Omega.{arith}
 use lib.Bits.{bitOr, bitAnd, and-le-l}
 use lib.Dec.{T, eqb, eqb→eq, eqb-refl, T-not, not-T}
 use lib.Pow.{pow-pos, pow-mono}
-use Rattle.flc.specs.Sets.{both, either, forSome, among, has, setOf}
+use Rattle.flc.specs.Sets.{both, either, among, has, setOf}
 use Rattle.flc.specs.Functions.{Fun}
-use Rattle.flc.specs.Formula.{Table, actions, modal, stepsBy, meanAtom}
+use Rattle.flc.specs.Formula.{Table, modal, stepsBy, meanAtom}
 use Rattle.flc.proofs.Tests.{bool-ext, both-left, both-right, both-mk, either-left, either-right, either-use}
 use Rattle.flc.proofs.Tests.{implies-use, implies-mk, forAll-use, forAll-mk, forSome-use, forSome-mk}
-use Rattle.flc.proofs.Masks.{has-setOf, setOf-lt, set-ext, has-and, or-setOf, setOf-ext, setOf-none, has-empty, has-beyond}
-use Rattle.case_model.specs.Limits.{mostStates}
+use Rattle.flc.proofs.Masks.{has-setOf, setOf-lt, set-ext, has-and, or-setOf, setOf-ext, has-empty, has-beyond}
 use Rattle.case_model.specs.Areas.{Filled, from}
 use Rattle.case_model.proofs.Filling.{filled-ext, filled-up, filled-down, filled-one}
 use Rattle.case_plan.specs.Plans.{Plan, Sized, tableOf}
-use Rattle.tables.specs.Tables.{entering, edge}
+use Rattle.tables.specs.Tables.{sourcesBy, edge}
 use Rattle.tables.proofs.Digits.{has-add, has-rest, has-gap}
-use Rattle.tables.proofs.Sizes.{has-all, sources-are}
-
--- ---- a set, if the test b holds
-given-has : (b : Bool) (y s : ℕ) → both b (has y s) ≡ has (cond b y 0) s
-unfolding both
-given-has true y s = refl
-given-has false y s = sym (has-empty s)
-
-given-small : (b : Bool) (y n : ℕ) → y < 2 ^ n → cond b y 0 < 2 ^ n
-given-small true y n h = h
-given-small false y n h = pow-pos n
-
--- ---- the states with a step to t by the actions below k that are in g
-abbrev pub entered : Plan → ℕ → ℕ → ℕ → ℕ
-entered p g t k = setOf (p .states) (λ s. forSome k (λ a. both (has g a) (tableOf p .step s a t)))
-
-pub entered-none : (p : Plan) (g t : ℕ) → 0 ≡ entered p g t 0
-unfolding forSome
-entered-none p g t = sym (setOf-none (p .states))
-
-pub entered-all : (p : Plan) (g t : ℕ) → entered p g t actions ≡ entering p g t
-unfolding stepsBy
-entered-all p g t = refl
-
-module _ {p : Plan} (z : Sized p) (g t : ℕ) (k : t < mostStates) (a : ℕ) (l : a < actions) where
-  -- one action more
-  pub entered-more : entered p g t (a + 1) ≡ bitOr (entered p g t a) (cond (has g a) (p .sources (8 * t + a)) 0)
-  unfolding forSome
-  entered-more =
-      let n = p .states in
-      let y = p .sources (8 * t + a) in
-      let are = sources-are z a t l k in
-      let there : (s : ℕ) → s < n → tableOf p .step s a t ≡ has y s = λ s i. sym (ap (λ y. has y s) are ∙ has-setOf n _ s i) in
-      ap (entered p g t) (add-one a)
-      ∙ setOf-ext n _ _ (λ s i. ap₂ either (sym (has-setOf n _ s i)) (ap (both (has g a)) (there s i) ∙ given-has (has g a) y s))
-      ∙ sym (or-setOf n (entered p g t a) (cond (has g a) y 0) (setOf-lt n _) (given-small (has g a) y n (rw are (setOf-lt n _))))
+use Rattle.tables.proofs.Sizes.{has-all}
 
 -- ---- one state more in x, under a test q
 module _ (n s x : ℕ) (l : s < n) (out : has x s ≡ false) (q : ℕ → Bool) where
@@ -120,19 +84,20 @@ module _ (L : Table) (g : ℕ) where
         ∙ sym (has-and _ (65535 - p) r))
 
 -- ---- the loop: h words are filled, h the power of the states gone through
--- where they are in the table: the first of ⟨g⟩'s, the last of [g]'s
-abbrev pub first : Bool → ℕ → ℕ → ℕ
-first true size h = 0
-first false size h = size - h
+-- where they begin in the table: the first of ⟨g⟩'s, the last of [g]'s
+abbrev pub offset : Bool → ℕ → ℕ → ℕ
+offset true size h = 0
+offset false size h = size - h
 
+-- what they hold
 abbrev pub part : Plan → Bool → ℕ → ℕ → Fun
-part p d g h y = meanAtom (tableOf p) (modal d g) (first d (p .size) h + y)
+part p d g h y = meanAtom (tableOf p) (modal d g) (offset d (p .size) h + y)
 
--- those at `at`, in the table from `base` on
+-- of the table from `base` on, the h words from `at` on are filled
 pub record Doubling (p : Plan) (d : Bool) (g : ℕ) (w v : List ℕ) (base at h s : ℕ) : Type 0 where
   pub within : s ≤ p .states
   pub power : h ≡ 2 ^ s
-  pub place : at ≡ base + first d (p .size) h
+  pub place : at ≡ base + offset d (p .size) h
   pub filled : Filled w v at h (part p d g h)
 
 module _ {p : Plan} (z : Sized p) {d : Bool} {g : ℕ} {w v : List ℕ} {base at h s : ℕ} (D : Doubling p d g w v base at h s) where
@@ -172,12 +137,12 @@ module _ {p : Plan} (z : Sized p) (g : ℕ) where
         filled = filled-one S (q ∙ sym (modal-edge (tableOf p) g d) ∙ ap M (sym q ∙ e ∙ there d ∙ sym (add-zero _)));
       }
     where
-      there : (d : Bool) → edge d (p .size - 1) ≡ first d (p .size) 1
+      there : (d : Bool) → edge d (p .size - 1) ≡ offset d (p .size) 1
       there true = refl
       there false = refl
 
   -- ⟨g⟩'s double upwards
-  pub double-up : {w v u : List ℕ} {base at h s q : ℕ} → Doubling p true g w v base at h s → s < p .states → q ≡ entering p g s
+  pub double-up : {w v u : List ℕ} {base at h s q : ℕ} → Doubling p true g w v base at h s → s < p .states → q ≡ sourcesBy p g s
       → Filled v u (at + h) h (λ x. bitOr (from v at x) q) → Doubling p true g w u base at (h * 2) (s + 1)
   double-up {w} {v} {u} {base} {at} {h} {s} {q} D l e S =
       let twice : h + h ≡ h * 2 = omega arith in
@@ -193,7 +158,7 @@ module _ {p : Plan} (z : Sized p) (g : ℕ) where
       }
 
   -- [g]'s downwards
-  pub double-down : {w v u : List ℕ} {base at to h s q : ℕ} → Doubling p false g w v base at h s → s < p .states → q ≡ entering p g s
+  pub double-down : {w v u : List ℕ} {base at to h s q : ℕ} → Doubling p false g w v base at h s → s < p .states → q ≡ sourcesBy p g s
       → at ≡ to + h → Filled v u to h (λ x. bitAnd (from v (to + h) x) (65535 - q)) → Doubling p false g w u base to (h * 2) (s + 1)
   double-down {w} {v} {u} {base} {at} {to} {h} {s} {q} D l e b S =
       let twice : h + h ≡ h * 2 = omega arith in
@@ -218,10 +183,10 @@ module _ {p : Plan} (z : Sized p) (g : ℕ) where
   pub double-end : (d : Bool) {w v : List ℕ} {base at h s : ℕ} → Doubling p d g w v base at h s → p .states ≤ s
       → Filled w v base (p .size) (meanAtom (tableOf p) (modal d g))
   double-end d {w} {v} {base} {at} {h} D l =
-      let e : at ≡ base = D .place ∙ ap (λ h. base + first d (p .size) h) (double-whole z D l) ∙ ap (λ i. base + i) (whole d) ∙ add-zero base in
+      let e : at ≡ base = D .place ∙ ap (λ h. base + offset d (p .size) h) (double-whole z D l) ∙ ap (λ i. base + i) (whole d) ∙ add-zero base in
       filled-ext (subst (λ h. Filled w v base h (part p d g h)) (double-whole z D l) (subst (λ i. Filled w v i h (part p d g h)) e (D .filled)))
       (λ y k. ap (meanAtom (tableOf p) (modal d g)) (ap (λ i. i + y) (whole d) ∙ zero-add y))
     where
-      whole : (d : Bool) → first d (p .size) (p .size) ≡ 0
+      whole : (d : Bool) → offset d (p .size) (p .size) ≡ 0
       whole true = refl
       whole false = omega arith

@@ -24,10 +24,10 @@ combined and f g x = bitAnd (f x) (g x)
 combined chop f g x = f (g x)
 
 -- the states with a step to t by an action of the group g
-abbrev pub entering : Plan → ℕ → ℕ → ℕ
-entering p g t = setOf (p .states) (λ s. stepsBy (tableOf p) g s t)
+abbrev pub sourcesBy : Plan → ℕ → ℕ → ℕ
+sourcesBy p g t = setOf (p .states) (λ s. stepsBy (tableOf p) g s t)
 
--- the set at which ⟨g⟩ has no state whatever g is, and that at which [g] has all
+-- the set whose entry is filled first in the table of a modality: the empty one for ⟨g⟩ and that of all states for [g], each of which is its own value
 abbrev pub edge : Bool → ℕ → ℕ
 edge some all = cond some 0 all
 

@@ -7,7 +7,7 @@ ghost use Rattle.flc.specs.Sets.{has};
 ghost use Rattle.flc.specs.Formula as logic;
 ghost use Rattle.flc.specs.Formula.{actions};
 ghost use Rattle.case_plan.specs.Plans.{decoded, Sized};
-ghost use Rattle.tables.specs.Tables.{AtomFilled, edge, entering};
+ghost use Rattle.tables.specs.Tables.{AtomFilled, edge, sourcesBy};
 use crate::words::constant;
 use crate::words::narrow;
 use crate::words::widen;
@@ -30,9 +30,9 @@ fn by_action(plan: &Plan, group: usize, a: usize, t: usize) -> u16
 }
 
 // Those by all actions of the group.
-fn entering(plan: &Plan, group: usize, t: usize) -> u16
+fn sources_by(plan: &Plan, group: usize, t: usize) -> u16
     requires { ⌜ Sized (decoded (now plan)) × (t < decoded (now plan) .states) ⌝ }
-    ensures { λ r. ⌜ r ≡ entering (decoded (now (plan .entry))) group t ⌝ }
+    ensures { λ r. ⌜ r ≡ sourcesBy (decoded (now (plan .entry))) group t ⌝ }
 {
     let mut states: u16 = 0;
     for a in 0..Kind::ACTIONS {
@@ -41,7 +41,7 @@ fn entering(plan: &Plan, group: usize, t: usize) -> u16
     states
 }
 
-// The set with which a modality begins: it is its own value there.
+// The set whose entry is filled first: what a modality yields of it is that set itself.
 fn edge(some: bool, all: usize) -> usize
     ensures { λ r. ⌜ r ≡ edge some all ⌝ }
 {
@@ -60,7 +60,7 @@ pub(crate) fn modality(work: &mut [u16], plan: &Plan, some: bool, group: usize, 
     constant(work, 1, d, first as u16);
     let mut h: usize = 1;
     for s in 0..n {
-        let p = entering(plan, group, s);
+        let p = sources_by(plan, group, s);
         if some {
             widen(work, h, d, p);
         } else {

@@ -108,7 +108,7 @@ mod tests {
     use differential::measure::reaches_group;
     use differential::rng::Rng;
 
-    /// Random rules, most of them with groups, against the plain checker.
+    /// Random rules, a third of them at least with groups, against the plain checker.
     #[test]
     fn answers_are_the_plain_checkers() {
         let mut rng = Rng::new(1_000);

@@ -2,6 +2,7 @@
 use crate::judge::judge;
 use crate::plan::Plan;
 use crate::tables::{Checked, Indexed, Sliced, Unchecked};
+use differential::judging::number_of;
 use plain::Case;
 use std::hint::black_box;
 
@@ -63,8 +64,6 @@ impl Task {
     pub fn plain(&self) -> Answer {
         let file = black_box(&self.file);
         let verdict = plain::judge(file, self.set, usize::MAX).expect("a verdict");
-        let states = verdict.states.iter().enumerate();
-        let set = states.map(|(s, &holds)| u16::from(holds) << s).sum();
-        (set, verdict.rounds)
+        (number_of(&verdict.states), verdict.rounds)
     }
 }

@@ -27,12 +27,21 @@ pub fn drives() -> Vec<(&'static str, Case)> {
         ("nu.case", one_state(&[(4, 0, 0), (12, 0, 0)])),
         ("chop_and.case", chop_and()),
         ("and_chops.case", and_chops()),
-        ("empty_group_some.case", on_two((13, 0, 0))),
-        ("empty_group_all.case", on_two((14, 0, 0))),
-        ("two_actions_some.case", on_two((13, 0b1000_0001, 0))),
-        ("two_actions_all.case", on_two((14, 0b1000_0001, 0))),
-        ("one_action_as_group.case", on_two((13, 0b1000_0000, 0))),
-        ("one_action.case", on_two((6, 7, 0))),
+        ("empty_group_some.case", leaf_on_two_states((13, 0, 0))),
+        ("empty_group_all.case", leaf_on_two_states((14, 0, 0))),
+        (
+            "two_actions_some.case",
+            leaf_on_two_states((13, 0b1000_0001, 0)),
+        ),
+        (
+            "two_actions_all.case",
+            leaf_on_two_states((14, 0b1000_0001, 0)),
+        ),
+        (
+            "one_action_as_group.case",
+            leaf_on_two_states((13, 0b1000_0000, 0)),
+        ),
+        ("one_action.case", leaf_on_two_states((6, 7, 0))),
         ("feed_and_back.case", printer::feed_and_back()),
         (
             "no_more_back_than_fed.case",
@@ -133,7 +142,7 @@ fn fork(nodes: &[Triple]) -> Case {
 }
 
 /// State 0 steps to itself by action 0 and to 1 by action 7, and 1 steps to 0 by action 3.
-fn on_two(node: Triple) -> Case {
+fn leaf_on_two_states(node: Triple) -> Case {
     case(&[0, 0], &[(0, 0, 0), (0, 7, 1), (1, 3, 0)], &[node])
 }
 

@@ -20,6 +20,12 @@ pub fn set_of(states: &[usize]) -> u16 {
     states.iter().map(|&state| 1 << state).sum()
 }
 
+/// The number of a set that says of each state whether it is in.
+pub fn number_of(set: &[bool]) -> u16 {
+    let states: Vec<usize> = (0..set.len()).filter(|&state| set[state]).collect();
+    set_of(&states)
+}
+
 /// Judges by both checkers, which must agree, and returns their reply.
 pub fn compare(file: &[u8], set: u16, words: usize) -> Judged {
     let plain = plain::judge(file, set, words);

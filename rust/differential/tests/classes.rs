@@ -18,7 +18,7 @@ fn drives() {
 /// Two states that one step, or one bit of their labels, tells apart.
 #[test]
 fn every_action_and_label_bit_counts() {
-    // The rule has no part in it, though a group of all actions does not tell one from another.
+    // Likeness compares every action, also under a rule that cannot tell them apart.
     for rule in [(5, 0, 0), (13, 255, 0), (14, 255, 0)] {
         each_counts_under(rule);
     }

@@ -89,6 +89,24 @@ fn each_edit_is_named_in_proved() {
     }
 }
 
+/// What each edit takes out stands in its file once: else it would try nothing.
+#[test]
+fn each_edit_applies() {
+    let mut edits = 0;
+    for krate in entries(&root().join("crates")) {
+        for path in entries(&krate.join("must-fail")) {
+            let edit = fs::read_to_string(&path).expect("an edit");
+            let named = |mark| edit.lines().find_map(|line| line.strip_prefix(mark));
+            let file = krate.join(named("file: ").expect("a file"));
+            let text = fs::read_to_string(file).expect("its file");
+            let old = named("old: ").expect("an old text");
+            assert_eq!(text.matches(old.trim()).count(), 1, "{path:?}");
+            edits += 1;
+        }
+    }
+    assert!(edits > 100);
+}
+
 /// What stands between two fences of this kind, each without its line ends.
 fn blocks(markdown: &str, fence: &str) -> Vec<String> {
     let open = format!("```{fence}\n");

@@ -4,7 +4,7 @@ use differential::drives::case;
 use differential::formulas::{self, Bounds};
 use differential::generate;
 use differential::groups::has_group;
-use differential::judging::{all_states, compare, compare_sets, needed, set_of};
+use differential::judging::{all_states, compare, compare_sets, needed, number_of, set_of};
 use differential::measure::reaches_group;
 use differential::rng::Rng;
 use plain::{write, Case, Shape, Triple};
@@ -25,15 +25,7 @@ fn yielded(table: &Case, nodes: &[Triple]) -> Vec<u16> {
     let sets: Vec<u16> = (0..1 << table.labels.len()).collect();
     compare_sets(&case, &sets);
     let function = plain::meaning(&case).function;
-    function.iter().map(|set| number(set)).collect()
-}
-
-/// The number of a set: bit i is state i.
-fn number(set: &[bool]) -> u16 {
-    let states = (0..).zip(set);
-    states
-        .map(|(state, &is_in)| u16::from(is_in) << state)
-        .sum()
+    function.iter().map(|set| number_of(set)).collect()
 }
 
 /// The numbers of a group's actions.
@@ -84,26 +76,34 @@ fn every_group_by_its_actions() {
     }
 }
 
-/// State 0 has one step of each action, and action a leads to state a + 1, where no step begins.
-#[test]
-fn every_group_where_each_action_leads_elsewhere() {
+/// On a table where state 0 has one step of each action, and action a leads to state a + 1, where
+/// no step begins: what the two modalities yield if they are of these actions, bit a for action a.
+fn on_nine_states(some: Triple, all: Triple, actions: u8) {
     let steps: Vec<Triple> = (0..8).map(|action| (0, action, action + 1)).collect();
     let table = case(&[0; 9], &steps, &[(5, 0, 0)]);
     let state_0 = set_of(&[0]);
-    for group in 0..=255 {
-        let some = yielded(&table, &[(13, group, 0)]);
-        let all = yielded(&table, &[(14, group, 0)]);
-        for set in 0..1 << 9 {
-            let entered = (set >> 1) as u8;
-            let leads = if group & entered != 0 { state_0 } else { 0 };
-            assert_eq!(some[set], leads, "group {group}, set {set}");
-            let leaves = if group & !entered != 0 { state_0 } else { 0 };
-            assert_eq!(all[set], all_states(9) - leaves, "group {group}, set {set}");
-        }
+    let [some, all] = [some, all].map(|node| yielded(&table, &[node]));
+    for set in 0..1 << 9 {
+        let entered = (set >> 1) as u8;
+        let leads = if actions & entered != 0 { state_0 } else { 0 };
+        assert_eq!(some[set], leads, "actions {actions}, set {set}");
+        let leaves = if actions & !entered != 0 { state_0 } else { 0 };
+        assert_eq!(all[set], all_states(9) - leaves, "{actions}, set {set}");
     }
 }
 
-/// A group is no variable, neither free beside node 0, nor bound by the binder of its number.
+#[test]
+fn every_group_where_each_action_leads_elsewhere() {
+    for group in 0..=255 {
+        on_nine_states((13, group, 0), (14, group, 0), group);
+    }
+    for action in 0..8 {
+        on_nine_states((6, action, 0), (7, action, 0), 1 << action);
+    }
+}
+
+/// Its B names no node, so that a variable at node 0 is not free in it; its A is no variable, so
+/// that no binder binds it.
 #[test]
 fn a_group_is_no_variable() {
     for table in tables(353, 8) {

@@ -59,6 +59,6 @@ struct Readme;
 /// The longest case, in bytes. An output area of this length has room for every result.
 pub const LONGEST: usize = 6_365;
 
-/// Enough stack for a thread that calls, in bytes. In tests a call took at most 13,336 bytes.
+/// Enough stack for a thread that calls, in bytes. In tests a call took at most 13,256 bytes.
 /// Rust's threads have more unless they are built with less.
 pub const STACK: usize = 128 * 1024;

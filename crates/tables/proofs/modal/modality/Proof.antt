@@ -78,13 +78,13 @@ loop-holds c =
     let st = start-at-edge at-edge in
     double-start (st .pre .0) (st .args .group) (st .args .some) (at-edge .edge .ensures) (at-constant .constant .ensures)
 
-entering-requires : tie.Need-entering-requires Inv-loop μ-loop
-entering-requires c κs = (start-at-loop (c .before) .pre .0, omega arith)
+sources-by-requires : tie.Need-sources-by-requires Inv-loop μ-loop
+sources-by-requires c κs = (start-at-loop (c .before) .pre .0, omega arith)
 
 widen-requires : tie.Need-widen-requires Inv-loop μ-loop
 widen-requires c κs =
-    let at-entering = c .before .before in
-    let at-loop = at-entering .before .before in
+    let at-sources = c .before .before in
+    let at-loop = at-sources .before .before in
     omega (arith, room at-loop, up-room (start-at-loop at-loop .pre .0) (turned at-loop (c .before .if1 .taken)) (omega arith))
 
 sub-d : tie.Need-sub-d Inv-loop μ-loop
@@ -97,8 +97,8 @@ sub-narrow c = search needs
 
 narrow-requires : tie.Need-narrow-requires Inv-loop μ-loop
 narrow-requires c κs =
-    let at-entering = c .before .before in
-    let at-loop = at-entering .before .before in
+    let at-sources = c .before .before in
+    let at-loop = at-sources .before .before in
     omega (arith, room at-loop, down-room (start-at-loop at-loop .pre .0) (turned at-loop (c .before .if1 .left)) (omega arith))
 
 mul-h : tie.Need-mul-h Inv-loop μ-loop
@@ -115,11 +115,11 @@ loop-less c = search needs
 
 loop-again : tie.Need-loop-again Inv-loop μ-loop
 loop-again c =
-    let at-entering = c .before in
-    let at-loop = at-entering .before .before in
+    let at-sources = c .before in
+    let at-loop = at-sources .before .before in
     let st = start-at-loop at-loop in
     let z = st .pre .0 in
-    let is = at-entering .entering .ensures in
+    let is = at-sources .sources-by .ensures in
     ⊎-elim
     (λ w. double-as (w .0 .taken) (w .5) (w .6) (double-up z (st .args .group) (turned at-loop (w .0 .taken)) (omega arith) is (w .2 .ensures)))
     (λ w.
@@ -153,7 +153,7 @@ modality-spec =
     cast-constant
     constant-requires
     loop-holds
-    entering-requires
+    sources-by-requires
     widen-requires
     sub-d
     sub-narrow
