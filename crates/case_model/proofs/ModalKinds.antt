@@ -13,6 +13,7 @@ use Rattle.flc.proofs.Groups.{modal-iff}
 use Rattle.case_model.specs.Kinds.{kinds, kindAt, nodeOf}
 use Rattle.case_model.specs.ModalKinds.{Modal, some-by-action, all-by-action, some-by-group, all-by-group}
 
+-- whatever stands in the second operand, in the other nodes and for the variables
 pub modal-kinds : {k a : ℕ} {d : Bool} {g : ℕ} → Modal k a d g → (b : ℕ) (L : Table) (F : ℕ → Formula) (ρ : Env) (x s : ℕ) → s < L .n
     → T (has (mean L (tree (nodeOf (k, a, b)) F) ρ x) s) ↔ Leads d L g x s
 unfolding kindAt kinds mean

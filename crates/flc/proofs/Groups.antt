@@ -11,6 +11,7 @@ use Rattle.flc.specs.Modalities.{Leads}
 use Rattle.flc.proofs.Tests.{bool-ext, both-left, both-right, both-mk, implies-use, implies-mk, forAll-use, forAll-mk, forSome-use, forSome-mk}
 use Rattle.flc.proofs.Masks.{has-setOf, has-single}
 
+-- the test of one state
 leads-iff : (d : Bool) (L : Table) (g x s : ℕ) → T (among d (L .n) (stepsBy L g s) (has x)) ↔ Leads d L g x s
 unfolding among stepsBy
 leads-iff true L g x s = (
@@ -40,6 +41,7 @@ single-steps L a s t i = bool-ext _ _
     subst (λ b. T (L .step s b t)) (sym (eqb→eq a b (subst T (has-single a b) (both-left _ _ e)))) (both-right _ _ e))
     (λ w. forSome-mk actions _ a i (both-mk _ _ (subst T (sym (has-single a a)) (eqb-refl a)) w))
 
+-- so its modality looks at that action alone
 pub single-modal : (d : Bool) (L : Table) (a x : ℕ) → a < actions
     → meanAtom L (modal d (singleton a)) x ≡ setOf (L .n) (λ s. among d (L .n) (L .step s a) (has x))
 unfolding meanAtom
