@@ -1,15 +1,16 @@
 -- Examples of refusals 1 to 8, and case F's bytes, computed from the definitions.
 -- By computation: a slip in a row, or two rows exchanged, makes one of these equations false.
 use Prim.Native.Nat.{ℕ}
+use mathlib.Core.Bool.{true, false}
 use mathlib.Core.List.{List, [], _∷_, _++_}
 use mathlib.Core.Path.{_≡_, refl}
 use lib.ListN.{replicate, set}
 use Rattle.flc.specs.Sets.{both, either, forAll, forSome, first}
-use Rattle.flc.specs.Formula.{free}
-use Rattle.flc.specs.Nodes.{lower, formulaAt}
+use Rattle.flc.specs.Formula.{atom, modal, free}
+use Rattle.flc.specs.Nodes.{leaf, lower, formulaAt}
 use Rattle.case_model.specs.Bytes.{listOf, chained, pairsHold, section, packed}
 use Rattle.case_model.specs.Case.{flat, write, nodeAt, rule}
-use Rattle.case_model.specs.Kinds.{Triple, kinds, kindAt}
+use Rattle.case_model.specs.Kinds.{Triple, kinds, kindAt, nodeOf}
 use Rattle.case_model.specs.Rows.{lowest, rootClosed, refusals}
 use Rattle.case_model.specs.Replies.{answers, refuses, vetting, opening}
 
@@ -62,6 +63,15 @@ rows :
 unfolding write packed vetting refusals pairsHold chained section
     listOf lowest first forAll forSome both either rootClosed rule formulaAt lower nodeAt kindAt kinds free
 rows = (refl, refl, refl, refl, refl, refl, refl, refl, refl, refl, refl, refl, refl, refl)
+
+-- the kinds that look at steps: action 7 is the group 128, and 129 is {0, 7}
+modalities :
+    (nodeOf (6, 7, 0) ≡ leaf (atom (modal true 128)))
+    × (nodeOf (7, 7, 0) ≡ leaf (atom (modal false 128)))
+    × (nodeOf (13, 129, 0) ≡ leaf (atom (modal true 129)))
+    × (nodeOf (14, 129, 0) ≡ leaf (atom (modal false 129)))
+unfolding kindAt kinds
+modalities = (refl, refl, refl, refl)
 
 -- row 5, kinds 13 and 14: any group is right, the other operand is unused, and 15 is no kind. They bind no variable (0 is bound by node 9) and
 -- name no node (node 0 is a variable, which would be free in the root 5)
