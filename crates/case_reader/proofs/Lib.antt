@@ -1,5 +1,6 @@
 pub mod Readers
 pub mod FreeSets
 pub mod Knowing
+pub mod Productions
 pub mod Reaching
 pub mod Marking

@@ -1,10 +1,8 @@
 // What a triple is as a node, and what its operands can be: the one place of the code that knows the numbers of the kinds.
-ghost use mathlib.Core.Bool.{_&&_};
 ghost use mathlib.Core.Path.{_≡_};
-ghost use Prim.Native.Nat.{ℕ};
-ghost use Rattle.case_model.specs.Kinds.{fits, kindAt, nodeOf, nodeHolds, isBinder};
+ghost use Rattle.case_model.specs.Kinds.{kindAt, nodeOf, nodeHolds, isBinder};
 ghost use Rattle.case_reader.specs.Read.{triple};
-ghost use Rattle.case_reader.specs.NodeKinds.{operandOf, lineOf};
+ghost use Rattle.case_reader.specs.NodeKinds.{lineOf};
 use crate::parts::Triple;
 
 // What is constant, τ; and the modalities, of some step if true, else of all steps: those of one action and those of a group of actions.
@@ -33,7 +31,7 @@ pub enum Kind {
 }
 
 impl Kind {
-    // The numbers that the laws name, and how many kinds there are.
+    // The numbers that the laws name.
     pub const LAST_CONSTANT: usize = 3;
 
     pub const TAU: usize = 5;
@@ -43,8 +41,6 @@ impl Kind {
     pub const AND: usize = 9;
 
     pub const CHOP: usize = 10;
-
-    pub const COUNT: usize = 15;
 
     // How many propositions, variables, actions and groups of actions an operand can name.
     pub const PROPOSITIONS: usize = 8;
@@ -93,37 +89,27 @@ pub fn is_binder(t: Triple) -> bool
     }
 }
 
-// Can a be the operand of such an atom?
-fn atom_fits(atom: Atom, a: usize) -> bool
-    ensures { λ r. ⌜ ((j : ℕ) → r ≡ fits (operandOf atom) j a) ⌝ }
-{
-    match atom {
-        Atom::Top => a == 0,
-        Atom::Bottom => a == 0,
-        Atom::Proposition => a < Kind::PROPOSITIONS,
-        Atom::Complement => a < Kind::PROPOSITIONS,
-        Atom::Tau => a == 0,
-        Atom::Action(_) => a < Kind::ACTIONS,
-        Atom::Group(_) => a < Kind::GROUPS,
-    }
-}
-
-// Can a and b be the operands of node j, which is of this kind?
-fn operands_fit(kind: Kind, j: usize, a: usize, b: usize) -> bool
-    ensures { λ r. ⌜ r ≡ fits (lineOf kind .first) j a && fits (lineOf kind .second) j b ⌝ }
-{
-    match kind {
-        Kind::Atom(atom) => atom_fits(atom, a) & (b == 0),
-        Kind::Variable => (a < Kind::VARIABLES) & (b == 0),
-        Kind::Two(_) => (a < j) & (b < j),
-        Kind::Binder(_) => (a < Kind::VARIABLES) & (b < j),
-    }
-}
-
-// The table of kinds, for node j.
+// Row 5, for node j. The lines are the productions of the grammar line of source document 000, section 2, in its order, q as its four kinds; then the two
+// kinds of groups, which that line does not have. A line is tried only if those before it did not fit.
 pub fn node_holds(j: usize, t: Triple) -> bool
     ensures { λ r. ⌜ r ≡ nodeHolds j (triple t) ⌝ }
 {
-    let fits = operands_fit(kind_of(t), j, t.1, t.2);
-    (t.0 < Kind::COUNT) & fits
+    let kind = t.0;
+    let a = t.1;
+    let b = t.2;
+    (kind == 0) & (a == 0) & (b == 0) // q: tt
+        || (kind == 1) & (a == 0) & (b == 0) // q: ff
+        || (kind == 2) & (a < Kind::PROPOSITIONS) & (b == 0) // q: a proposition
+        || (kind == 3) & (a < Kind::PROPOSITIONS) & (b == 0) // q: its complement
+        || (kind == 4) & (a < Kind::VARIABLES) & (b == 0) // Z
+        || (kind == 5) & (a == 0) & (b == 0) // τ
+        || (kind == 6) & (a < Kind::ACTIONS) & (b == 0) // ⟨a⟩
+        || (kind == 7) & (a < Kind::ACTIONS) & (b == 0) // [a]
+        || (kind == 8) & (a < j) & (b < j) // φ ∨ ψ
+        || (kind == 9) & (a < j) & (b < j) // φ ∧ ψ
+        || (kind == 11) & (a < Kind::VARIABLES) & (b < j) // μZ. φ
+        || (kind == 12) & (a < Kind::VARIABLES) & (b < j) // νZ. φ
+        || (kind == 10) & (a < j) & (b < j) // φ; ψ
+        || (kind == 13) & (a < Kind::GROUPS) & (b == 0) // some step by a group
+        || (kind == 14) & (a < Kind::GROUPS) & (b == 0) // all steps by a group
 }
