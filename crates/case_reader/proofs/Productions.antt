@@ -8,7 +8,7 @@ use Rattle.flc.specs.Sets.{both, either, forSome}
 use Rattle.flc.proofs.Tests.{bool-ext, both-left, both-right, both-mk, forSome-use, forSome-mk}
 use Rattle.case_model.specs.Kinds.{Triple, fits, kinds, kindAt, nodeHolds}
 
--- the line of kind k fits node j
+-- the line of kind k fits t as node j
 abbrev pub lineFits : ℕ → Triple → ℕ → Bool
 lineFits j t k = both (both (eqb (t .0) k) (fits (kindAt k .first) j (t .1))) (fits (kindAt k .second) j (t .2))
 
@@ -43,13 +43,13 @@ grammar-order j t =
     swap false a b = or-comm a b
 
 -- ---- one after another
--- u says whether a line before fitted, x, and p whether the next one does; p is tried only if u is false
+-- u, the code's value, is x, whether a line before fits; p, whether the next one does, is tried only if u is false
 pub fitted : {u x : Bool} (p : Bool) → u ≡ x → u ≡ true → u ≡ (x || p)
 fitted p h e = e ∙ ap (λ x. x || p) (sym e ∙ h)
 
 pub missed : {u x : Bool} (p : Bool) → u ≡ x → u ≡ false → p ≡ (x || p)
 missed p h e = ap (λ x. x || p) (sym e ∙ h)
 
--- where the two ways meet again
+-- where the two branches join
 pub tried : {A B : Type 0} {u v x : Bool} (p : Bool) → u ≡ x → (A × (v ≡ u)) ⊎ (B × (v ≡ p)) → (A → u ≡ true) → (B → u ≡ false) → v ≡ (x || p)
 tried p h came taken left = ⊎-elim (λ w. w .1 ∙ fitted p h (taken (w .0))) (λ w. w .1 ∙ missed p h (left (w .0))) came

@@ -22,11 +22,12 @@ start c13 =
     let c1 = c4 .before .before .before in
     c1 .before
 
-fourteen : (c13 : Tested)
+-- whether one of them fits
+first-fourteen : (c13 : Tested)
     → let f = lineFits (start c13 .args .j) (triple (start c13 .args .t)) in
     c13 .if13 .if14 ≡ (forSome 10 f || f 11 || f 12 || f 10 || f 13)
 unfolding kindAt kinds both either forSome
-fourteen c13 =
+first-fourteen c13 =
     let f = lineFits (start c13 .args .j) (triple (start c13 .args .t)) in
     let c12 = c13 .before in
     let c11 = c12 .before in
@@ -56,13 +57,13 @@ fourteen c13 =
 returns : tie.Need-returns
 returns c =
     let a = start (c .before) .args in
-    fitted _ (fourteen (c .before)) (c .if14 .taken) ∙ grammar-order (a .j) (triple (a .t))
+    fitted _ (first-fourteen (c .before)) (c .if14 .taken) ∙ grammar-order (a .j) (triple (a .t))
 
 returns-2 : tie.Need-returns-2
 unfolding kindAt kinds both
 returns-2 c =
     let a = start (c .before) .args in
-    missed _ (fourteen (c .before)) (c .if14 .left) ∙ grammar-order (a .j) (triple (a .t))
+    missed _ (first-fourteen (c .before)) (c .if14 .left) ∙ grammar-order (a .j) (triple (a .t))
 
 pub node-holds-spec : {M : Type 1} → statement M
 node-holds-spec = tie.close (tie.spec returns returns-2)
