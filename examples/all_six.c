@@ -41,14 +41,14 @@ static size_t read_file(uint8_t file[HOIDRUL_LONGEST + 1])
 
 static void print_sections(const uint8_t *file, size_t len)
 {
-    static const char *const names[] = {"labels", "steps", "rule"};
-    for (size_t section = HOIDRUL_LABELS; section <= HOIDRUL_RULE; section++) {
+    static const char *const names[] = {"labels", "steps", "rule", "start states"};
+    for (size_t section = HOIDRUL_LABELS; section <= HOIDRUL_STARTS; section++) {
         uint64_t part = hoidrul_open(file, len, section);
         printf("%s: %zu bytes from byte %zu\n", names[section], hoidrul_length(part), hoidrul_offset(part));
     }
 }
 
-/* On the set of all states: which states hold, and the rounds. */
+/* On the set of all states: which states hold, the rounds, and whether every start state holds. */
 static void judge(const uint8_t *file, size_t len)
 {
     uint64_t counts = answer(hoidrul_vet(file, len, HOIDRUL_RULE));
@@ -61,6 +61,8 @@ static void judge(const uint8_t *file, size_t len)
     for (size_t state = 0; state < n; state++)
         printf("%zu %s\n", state, hoidrul_holds(verdict, state) ? "holds" : "does not hold");
     printf("rounds: %" PRIu64 "\n", hoidrul_rounds(verdict));
+    uint64_t starts = hoidrul_open(file, len, HOIDRUL_STARTS);
+    printf("every start state holds: %s\n", hoidrul_starts_hold(file, starts, verdict) ? "yes" : "no");
 }
 
 /* Merges the first state that has a lower one alike to it with that one. */

@@ -1,4 +1,4 @@
-/* Hoidrul checks case files: one state table and one rule of Fixed Point Logic with Chop.
+/* Hoidrul checks case files: one state table, one rule of Fixed Point Logic with Chop and a list of start states.
  *
  * Arguments. Every function takes any bytes and any numbers. `file` points to `len` bytes, which are only read.
  * A lent area, `work` or `out`, must not overlap the file. A pointer may be null where its length is 0.
@@ -11,7 +11,7 @@
  * of its own. They may share a file that nobody writes.
  *
  * Stack. Every call fits in a thread with HOIDRUL_STACK bytes of stack. Threads of 18 KiB were enough in tests, and
- * threads of 17 KiB were not: judging took 13,256 bytes from its caller's frame, the other functions at most 5,392.
+ * threads of 17 KiB were not: judging took 13,256 bytes from its caller's frame, the other functions at most 5,680.
  *
  * Time. Judging can take hours: a binder takes up to n * 2^n rounds on n states, and nested binders of alternating
  * kinds multiply theirs. Only ending its thread or process stops a call. The other functions end within about a
@@ -28,29 +28,31 @@ extern "C" {
 #endif
 
 /* The longest case, in bytes. An `out` of this length has room for every result. */
-#define HOIDRUL_LONGEST 6365
+#define HOIDRUL_LONGEST 6385
 
 /* Enough stack for a thread that calls, in bytes. */
 #define HOIDRUL_STACK 131072
 
 /* The sections of a case: a label byte a state; steps of three bytes (from, action, to); nodes of three bytes
- * (kind, A, B) and the root's number. Kinds: 0 tt, 1 ff, 2 proposition A, 3 its complement, 4 variable A, 5 tau,
- * 6 some step by action A leads into the set, 7 all such steps do, 8 A or B, 9 A and B, 10 A;B, 11 mu A.B, 12 nu A.B,
- * 13 some step whose action is in the group A leads into the set, 14 all such steps do. Bit i of a group is action i,
- * and every byte is a group; of the empty one 13 yields no state and 14 every state. An operand that is not used is 0. */
+ * (kind, A, B) and the root's number; start states of one byte, strictly rising, perhaps none. Kinds: 0 tt, 1 ff,
+ * 2 proposition A, 3 its complement, 4 variable A, 5 tau, 6 some step by action A leads into the set, 7 all such steps
+ * do, 8 A or B, 9 A and B, 10 A;B, 11 mu A.B, 12 nu A.B, 13 some step whose action is in the group A leads into the
+ * set, 14 all such steps do. Bit i of a group is action i, and every byte is a group; of the empty one 13 yields no
+ * state and 14 every state. An operand that is not used is 0. */
 #define HOIDRUL_LABELS 0
 #define HOIDRUL_STEPS 1
 #define HOIDRUL_RULE 2
+#define HOIDRUL_STARTS 3
 
 /* The numbers of refusals, the lowest tested first. Later versions may have more: let a switch have a default. */
 enum hoidrul_reason {
-    /* under 12 or over 6,365 bytes, or the pairs do not lay three sections end to end */
+    /* under 16 or over 6,385 bytes, or the pairs do not lay four sections end to end */
     HOIDRUL_REASON_PAIRS = 1,
     /* no label, or more than 16 */
     HOIDRUL_REASON_LABELS = 2,
     /* section 1 ends inside a step, or a step names no state or action of the case or does not come after the one before */
     HOIDRUL_REASON_STEPS = 3,
-    /* the rule is not 1 to 64 whole nodes and then the number of one of them */
+    /* the rule is not 1 to 64 whole nodes and then the number of one of them, or the start states do not rise or are not all in the table */
     HOIDRUL_REASON_RULE = 4,
     /* a node's kind or bytes are out of range, or it names a node that is not below it */
     HOIDRUL_REASON_NODE = 5,
@@ -91,8 +93,8 @@ uint64_t hoidrul_judge(const uint8_t *file, size_t len, uint16_t set, uint16_t *
 /* Classes: one byte a state, the lowest state alike to it. Refusals: 1 to 7, 13. */
 uint64_t hoidrul_classes(const uint8_t *file, size_t len, uint8_t *out, size_t room);
 
-/* Merging states s and t, in either order: the file of the case in which the lower stands for both.
- * Refusals: 1 to 7, 8 if s or t is beyond the case, 10, 13. */
+/* Merging states s and t, in either order: the file of the case in which the lower stands for both, also in the list of
+ * start states. Refusals: 1 to 7, 8 if s or t is beyond the case, 10, 13. */
 uint64_t hoidrul_merge(const uint8_t *file, size_t len, size_t s, size_t t, uint8_t *out, size_t room);
 
 /* Rewriting by a law, 1 to 9, at a node: the file of the case with that rule. Refusals: 1 to 7, 11 to 13. */
@@ -115,6 +117,16 @@ static inline size_t hoidrul_length(uint64_t answer) { return (size_t)(answer & 
 static inline uint16_t hoidrul_set(uint64_t answer) { return (uint16_t)(answer & 0xffff); }
 static inline uint64_t hoidrul_rounds(uint64_t answer) { return answer >> 16; }
 static inline int hoidrul_holds(uint64_t answer, size_t state) { return state < 16 && ((answer >> state) & 1) != 0; }
+
+/* Of opening's answer for section HOIDRUL_STARTS of the file and judging's on the set of all states: whether every start
+ * state holds, which is so if there is none. */
+static inline int hoidrul_starts_hold(const uint8_t *file, uint64_t opened, uint64_t answer)
+{
+    for (size_t i = 0; i < hoidrul_length(opened); i++)
+        if (!hoidrul_holds(answer, file[hoidrul_offset(opened) + i]))
+            return 0;
+    return 1;
+}
 
 /* For judging a case of n states, at most 16, and m nodes: the set of all states, and words that are enough. */
 static inline uint16_t hoidrul_all_states(size_t n) { return (uint16_t)(((uint64_t)1 << n) - 1); }

@@ -1,12 +1,12 @@
 // Vetting: from refusal 1 up, each test a step of a state that goes by value.
 ghost use mathlib.Core.Path.{_≡_};
 ghost use Rattle.case_model.specs.Case.{read};
-ghost use Rattle.case_model.specs.Rows.{_orElse_, unless, row1, row2, row3, row4, row5, row6, row7, row8, refusals, sound};
+ghost use Rattle.case_model.specs.Rows.{_orElse_, unless, row1, row2, row3, row5, row6, row7, row8, refusals, ruleHolds, sound, startsRise};
 ghost use Rattle.case_model.specs.Limits.{sections, standard};
 ghost use Rattle.case_model.specs.Replies.{accepting, replied};
 ghost use Rattle.case_file.specs.EnumNumbers.{number, vettedReply, found, countsOf};
 ghost use Rattle.case_tests.specs.RowTests.{limitsOf};
-ghost use Rattle.case_file.specs.VettingStages.{Stage, Went, MayClose};
+ghost use Rattle.case_file.specs.VettingStages.{Stage, Went, RuleTested, MayClose};
 use crate::reason::Reason;
 use crate::reason::Refusal;
 use case_reader::Kind;
@@ -21,6 +21,7 @@ use case_tests::labels_hold;
 use case_tests::pairs_hold;
 use case_tests::root_closed;
 use case_tests::rule_holds;
+use case_tests::starts_rise;
 
 // An accepted case: how many states and nodes it has.
 pub struct Case {
@@ -30,7 +31,7 @@ pub struct Case {
 
 impl Case {
     // In bytes.
-    pub const LONGEST: usize = 6365;
+    pub const LONGEST: usize = 6385;
 
     pub const SECTIONS: usize = case_reader::SECTIONS;
 
@@ -134,6 +135,7 @@ impl Vetting {
             .labels(file, limits)
             .steps(file)
             .rule(file)
+            .starts(file)
             .kinds(file)
             .binders(file)
             .closed(file)
@@ -187,9 +189,21 @@ impl Vetting {
     }
 
     fn rule(self, file: &[u8]) -> Vetting
-        ensures { λ r. ⌜ Went self r (row4 (now (file .entry)) (read (now (file .entry)))) ⌝ }
+        ensures { λ r. ⌜ Went self r (unless (ruleHolds (now (file .entry)) (read (now (file .entry)))) 4 0) ⌝ }
     {
         self.unless(rule_holds(file), Reason::Rule, 0)
+    }
+
+    // The other half of row 4. Both have one number and one place, so no reply tells which came first: what is asked for here does.
+    fn starts(self, file: &[u8]) -> Vetting
+        requires { ⌜ RuleTested self (now file) ⌝ }
+        ensures { λ r. ⌜ Went self r (unless (startsRise (read (now (file .entry)))) 4 0) ⌝ }
+    {
+        let finding = self.finding;
+        let Finding::Sound = finding else {
+            return self;
+        };
+        self.unless(starts_rise(file), Reason::Rule, 0)
     }
 
     fn kinds(self, file: &[u8]) -> Vetting

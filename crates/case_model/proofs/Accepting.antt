@@ -11,12 +11,13 @@ use lib.ListN.{length, getD, take, length-append}
 use lib.Seq.{take-all}
 use Rattle.case_model.specs.Bytes.{size, chained, pairsHold, joined, packed}
 use Rattle.case_model.specs.Case.{Case, write}
-use Rattle.case_model.specs.Rows.{sound, _orElse_, row1, row2, row3, row4, row5, row6, row7, stepWrong, nodeWrong, binderWrong, refusals}
+use Rattle.case_model.specs.Rows.{sound, _orElse_, row1, row2, row3, row4, row5, row6, row7, stepWrong, startWrong, nodeWrong, binderWrong, refusals}
 use Rattle.case_model.specs.Limits.{mostStates, mostNodes, sections, standard}
-use Rattle.case_model.proofs.Sections.{sound-lowest}
+use Rattle.case_model.proofs.Sections.{sound-lowest, wrong-none}
 use Rattle.case_model.proofs.Codec.{start, packed-offset, packed-size, length-packed, parts, length-write, size-steps, size-rule, read-write}
 use Rattle.case_model.specs.Valid.{Valid}
 use Rattle.case_model.proofs.Steps.{steps-few}
+use Rattle.case_model.proofs.Starts.{starts-few}
 
 -- ---- row 1
 -- a section begins where the one before ends
@@ -36,13 +37,14 @@ packed-chained l (suc n) k e =
     (packed-chained l n (suc k) (omega arith))
 
 module _ (c : Case) (valid : Valid standard c) where
-  -- at most 12 + 16 + 3 · 2048 + 193 bytes
+  -- at most 16 + 16 + 3 · 2048 + 193 + 16 bytes
   pairs-hold : pairsHold standard (write c) ≡ true
   unfolding pairsHold write
   pairs-hold =
       rw (
         le-leb (4 * sections) (length (write c)) (omega (arith, length-write c)),
-        le-leb (length (write c)) (standard .longest) (omega (arith, length-write c, steps-few (valid .table), valid .table .few, valid .rule .most)),
+        le-leb (length (write c)) (standard .longest)
+            (omega (arith, length-write c, steps-few (valid .table), starts-few valid, valid .table .few, valid .rule .most)),
       )
       (packed-chained (parts c) sections 0 refl)
 
@@ -62,6 +64,7 @@ module _ (c : Case) (valid : Valid standard c) where
         le-leb 1 (length (c .nodes)) (omega (arith, valid .rule .root)),
         le-leb (length (c .nodes)) mostNodes (valid .rule .most),
         lt-ltb (c .root) (length (c .nodes)) (valid .rule .root),
+        wrong-none (startWrong c) (length (c .starts)) (valid .starts),
         sound-lowest 5 (nodeWrong c) (length (c .nodes)) (λ j h. ap not (valid .rule .kinds j h)),
         sound-lowest 6 (binderWrong c) (length (c .nodes)) (valid .rule .binders),
         valid .rule .closed,

@@ -123,11 +123,11 @@ module _ (l : List (List ℕ)) where
 
 -- ---- a written case
 module _ (c : Case) where
-  -- its three sections
+  -- its sections
   abbrev pub parts : List (List ℕ)
-  parts = c .labels ∷ flat (c .steps) ∷ (flat (c .nodes) ++ (c .root ∷ [])) ∷ []
+  parts = c .labels ∷ flat (c .steps) ∷ (flat (c .nodes) ++ (c .root ∷ [])) ∷ c .starts ∷ []
 
-  pub length-write : length (write c) ≡ 13 + length (c .labels) + 3 * length (c .steps) + 3 * length (c .nodes)
+  pub length-write : length (write c) ≡ 17 + length (c .labels) + 3 * length (c .steps) + 3 * length (c .nodes) + length (c .starts)
   unfolding write
   length-write = simp (length-packed, length-append, length-flat) (omega arith)
 
@@ -154,4 +154,5 @@ module _ (c : Case) where
     steps = packed-triples parts 1 (c .steps) [] (omega arith) (sym (append-nil (flat (c .steps)))) (omega arith) i;
     nodes = packed-triples parts 2 (c .nodes) (c .root ∷ []) (omega arith) refl (omega arith) i;
     root = root-back i;
+    starts = packed-section parts 3 (omega arith) i;
   }

@@ -14,7 +14,7 @@ use Rattle.case_model.specs.Case.{write, listed, table, nodeAt, rule}
 use Rattle.case_model.specs.Kinds.{Triple, kinds, kindAt}
 use Rattle.case_model.specs.Rows.{lowest, rootClosed, refusals}
 use Rattle.case_model.specs.Replies.{answers, refuses}
-use Rattle.case_model.specs.Merging.{moved, movedSteps, inOrder, merge, merging}
+use Rattle.case_model.specs.Merging.{moved, movedSteps, selected, inOrder, isIn, merge, merging}
 use Rattle.case_model.specs.Rewriting.{change, renamed, rewrite, rewriting}
 
 -- the rule of case F
@@ -22,9 +22,12 @@ abbrev rule-F : List Triple
 rule-F =
     (4, 0, 0) ∷ (4, 1, 0) ∷ (10, 0, 1) ∷ (10, 2, 0) ∷ (12, 1, 3) ∷ (6, 0, 0) ∷ (10, 5, 4) ∷ (6, 1, 0) ∷ (8, 7, 6) ∷ (11, 0, 8) ∷ []
 
--- the file of a case
+-- the file of a case, with start states and without
+abbrev startingAt : List ℕ → List ℕ → List Triple → List Triple → ℕ → List ℕ
+startingAt at l s n r = write (record { labels = l; steps = s; nodes = n; root = r; starts = at })
+
 abbrev caseOf : List ℕ → List Triple → List Triple → ℕ → List ℕ
-caseOf l s n r = write (record { labels = l; steps = s; nodes = n; root = r })
+caseOf = startingAt []
 
 -- case F
 abbrev F : List ℕ
@@ -36,11 +39,11 @@ of n r = caseOf (0 ∷ []) [] n r
 
 -- rows 11 to 13, and laws 9, 1, 4 and 6 where they are there
 rewrites :
-    (rewriting F 1 9 51 ≡ refuses 11 0)
-    × (rewriting F 0 8 51 ≡ refuses 11 0)
-    × (rewriting (of (replicate 61 (5, 0, 0) ++ ((10, 0, 0) ∷ (10, 61, 0) ∷ (5, 0, 0) ∷ [])) 62) 4 62 6365 ≡ refuses 12 0)
-    × (rewriting F 9 8 50 ≡ refuses 13 0)
-    × (rewriting F 9 8 51 ≡ answers (caseOf (0 ∷ 0 ∷ []) ((0, 0, 1) ∷ (1, 1, 1) ∷ []) (set rule-F 8 (8, 6, 7)) 9))
+    (rewriting F 1 9 55 ≡ refuses 11 0)
+    × (rewriting F 0 8 55 ≡ refuses 11 0)
+    × (rewriting (of (replicate 61 (5, 0, 0) ++ ((10, 0, 0) ∷ (10, 61, 0) ∷ (5, 0, 0) ∷ [])) 62) 4 62 6385 ≡ refuses 12 0)
+    × (rewriting F 9 8 54 ≡ refuses 13 0)
+    × (rewriting F 9 8 55 ≡ answers (caseOf (0 ∷ 0 ∷ []) ((0, 0, 1) ∷ (1, 1, 1) ∷ []) (set rule-F 8 (8, 6, 7)) 9))
     × (rewriting (of ((5, 0, 0) ∷ (6, 0, 0) ∷ (10, 0, 1) ∷ []) 2) 1 2 99 ≡ answers (of ((5, 0, 0) ∷ (6, 0, 0) ∷ (10, 0, 1) ∷ []) 1))
     × (rewriting (of ((6, 0, 0) ∷ (6, 1, 0) ∷ (10, 0, 1) ∷ (10, 2, 0) ∷ (8, 3, 2) ∷ []) 4) 4 3 99
     ≡ answers (of ((6, 0, 0) ∷ (6, 1, 0) ∷ (10, 0, 1) ∷ (10, 1, 0) ∷ (10, 0, 3) ∷ (8, 4, 2) ∷ []) 5))
@@ -63,11 +66,12 @@ rewrites-groups = (refl, refl, refl, refl)
 
 -- rows 8 and 10, and two states with the same loop
 merges :
-    (merging F 0 2 51 ≡ refuses 8 0)
-    × (merging F 0 1 51 ≡ refuses 10 0)
-    × (merging F 1 1 51 ≡ refuses 10 0)
-    × (merging (caseOf (5 ∷ 5 ∷ []) ((0, 3, 1) ∷ (1, 3, 1) ∷ []) ((5, 0, 0) ∷ []) 0) 1 0 99 ≡ answers (caseOf (5 ∷ []) ((0, 3, 0) ∷ []) ((5, 0, 0) ∷ []) 0))
-unfolding merging merge moved movedSteps inOrder alike forSomeFun forAllFun bisimulation met implies has table listed
+    (merging F 0 2 55 ≡ refuses 8 0)
+    × (merging F 0 1 55 ≡ refuses 10 0)
+    × (merging F 1 1 55 ≡ refuses 10 0)
+    × (merging (startingAt (0 ∷ 1 ∷ []) (5 ∷ 5 ∷ []) ((0, 3, 1) ∷ (1, 3, 1) ∷ []) ((5, 0, 0) ∷ []) 0) 1 0 99
+    ≡ answers (startingAt (0 ∷ []) (5 ∷ []) ((0, 3, 0) ∷ []) ((5, 0, 0) ∷ []) 0))
+unfolding merging merge moved movedSteps selected inOrder isIn alike forSomeFun forAllFun bisimulation met implies has table listed
     write packed refusals pairsHold chained section
     listOf lowest first forAll forSome both either rootClosed rule formulaAt lower nodeAt kindAt kinds free
 merges = (refl, refl, refl, refl)

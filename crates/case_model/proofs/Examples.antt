@@ -14,9 +14,12 @@ use Rattle.case_model.specs.Kinds.{Triple, kinds, kindAt, nodeOf}
 use Rattle.case_model.specs.Rows.{lowest, rootClosed, refusals}
 use Rattle.case_model.specs.Replies.{answers, refuses, vetting, opening}
 
--- case F with other labels, steps, nodes or root
+-- case F with other labels, steps, nodes, root or start states
+abbrev startingAt : List ℕ → List ℕ → List Triple → List Triple → ℕ → List ℕ
+startingAt at l s n r = write (record { labels = l; steps = s; nodes = n; root = r; starts = at })
+
 abbrev caseOf : List ℕ → List Triple → List Triple → ℕ → List ℕ
-caseOf l s n r = write (record { labels = l; steps = s; nodes = n; root = r })
+caseOf = startingAt []
 
 abbrev labels : List ℕ
 labels = 0 ∷ 0 ∷ []
@@ -33,7 +36,7 @@ F = caseOf labels steps nodes 9
 
 -- the bytes of case F
 bytes : F ≡
-    12 ∷ 0 ∷ 2 ∷ 0 ∷ 14 ∷ 0 ∷ 6 ∷ 0 ∷ 20 ∷ 0 ∷ 31 ∷ 0
+    16 ∷ 0 ∷ 2 ∷ 0 ∷ 18 ∷ 0 ∷ 6 ∷ 0 ∷ 24 ∷ 0 ∷ 31 ∷ 0 ∷ 55 ∷ 0 ∷ 0 ∷ 0
     ∷ 0 ∷ 0
     ∷ 0 ∷ 0 ∷ 1 ∷ 1 ∷ 1 ∷ 1
     ∷ 4 ∷ 0 ∷ 0 ∷ 4 ∷ 1 ∷ 0 ∷ 10 ∷ 0 ∷ 1 ∷ 10 ∷ 2 ∷ 0 ∷ 12 ∷ 1 ∷ 3 ∷ 6 ∷ 0 ∷ 0 ∷ 10 ∷ 5 ∷ 4 ∷ 6 ∷ 1 ∷ 0 ∷ 8 ∷ 7 ∷ 6 ∷ 11 ∷ 0 ∷ 8
@@ -43,7 +46,7 @@ bytes = refl
 
 -- case F's rule section, its labels, and steps of any bytes
 abbrev withSteps : List ℕ → List ℕ
-withSteps s = packed (labels ∷ s ∷ (flat nodes ++ (9 ∷ [])) ∷ [])
+withSteps s = packed (labels ∷ s ∷ (flat nodes ++ (9 ∷ [])) ∷ [] ∷ [])
 
 rows :
     (vetting F 0 ≡ answers (record { states = 2; nodes = 10 }))
@@ -59,7 +62,7 @@ rows :
     × (vetting (caseOf labels steps (set nodes 7 (2, 8, 0)) 9) 0 ≡ refuses 5 7)
     × (vetting (caseOf labels steps nodes 4) 0 ≡ refuses 7 0)
     × (vetting (caseOf labels steps nodes 5) 0 ≡ answers (record { states = 2; nodes = 10 }))
-    × (vetting F 3 ≡ refuses 8 0)
+    × (vetting F 4 ≡ refuses 8 0)
 unfolding write packed vetting refusals pairsHold chained section
     listOf lowest first forAll forSome both either rootClosed rule formulaAt lower nodeAt kindAt kinds free
 rows = (refl, refl, refl, refl, refl, refl, refl, refl, refl, refl, refl, refl, refl, refl)
@@ -87,30 +90,46 @@ unfolding write packed vetting refusals pairsHold chained section
 groups = (refl, refl, refl, refl, refl, refl)
 
 -- row 1: each section begins where the one before ends, and the last ends with the file.
--- One state, no steps, τ; then a byte left between two sections, and one after the last
+-- One state, no steps, τ, no start state; then a byte left between two sections, and one after the last; and the same case without a fourth pair
 chains :
-    (vetting (12 ∷ 0 ∷ 1 ∷ 0 ∷ 13 ∷ 0 ∷ 0 ∷ 0 ∷ 13 ∷ 0 ∷ 4 ∷ 0 ∷ 0 ∷ 5 ∷ 0 ∷ 0 ∷ 0 ∷ []) 0 ≡ answers (record { states = 1; nodes = 1 }))
-    × (vetting (12 ∷ 0 ∷ 1 ∷ 0 ∷ 13 ∷ 0 ∷ 0 ∷ 0 ∷ 14 ∷ 0 ∷ 4 ∷ 0 ∷ 0 ∷ 0 ∷ 5 ∷ 0 ∷ 0 ∷ 0 ∷ []) 0 ≡ refuses 1 0)
-    × (vetting (12 ∷ 0 ∷ 1 ∷ 0 ∷ 13 ∷ 0 ∷ 0 ∷ 0 ∷ 13 ∷ 0 ∷ 4 ∷ 0 ∷ 0 ∷ 5 ∷ 0 ∷ 0 ∷ 0 ∷ 0 ∷ []) 0 ≡ refuses 1 0)
+    (vetting (16 ∷ 0 ∷ 1 ∷ 0 ∷ 17 ∷ 0 ∷ 0 ∷ 0 ∷ 17 ∷ 0 ∷ 4 ∷ 0 ∷ 21 ∷ 0 ∷ 0 ∷ 0 ∷ 0 ∷ 5 ∷ 0 ∷ 0 ∷ 0 ∷ []) 0 ≡ answers (record { states = 1; nodes = 1 }))
+    × (vetting (16 ∷ 0 ∷ 1 ∷ 0 ∷ 17 ∷ 0 ∷ 0 ∷ 0 ∷ 18 ∷ 0 ∷ 4 ∷ 0 ∷ 22 ∷ 0 ∷ 0 ∷ 0 ∷ 0 ∷ 0 ∷ 5 ∷ 0 ∷ 0 ∷ 0 ∷ []) 0 ≡ refuses 1 0)
+    × (vetting (16 ∷ 0 ∷ 1 ∷ 0 ∷ 17 ∷ 0 ∷ 0 ∷ 0 ∷ 17 ∷ 0 ∷ 4 ∷ 0 ∷ 21 ∷ 0 ∷ 0 ∷ 0 ∷ 0 ∷ 5 ∷ 0 ∷ 0 ∷ 0 ∷ 0 ∷ []) 0 ≡ refuses 1 0)
+    × (vetting (12 ∷ 0 ∷ 1 ∷ 0 ∷ 13 ∷ 0 ∷ 0 ∷ 0 ∷ 13 ∷ 0 ∷ 4 ∷ 0 ∷ 0 ∷ 5 ∷ 0 ∷ 0 ∷ 0 ∷ []) 0 ≡ refuses 1 0)
 unfolding vetting refusals pairsHold chained section
     listOf lowest first forAll forSome both either rootClosed rule formulaAt lower nodeAt kindAt kinds free
-chains = (refl, refl, refl)
+chains = (refl, refl, refl, refl)
+
+-- row 4, start states: states of the case, strictly rising; a list out of order is told before a node that is wrong
+starts :
+    (vetting (startingAt (0 ∷ 1 ∷ []) labels steps nodes 9) 0 ≡ answers (record { states = 2; nodes = 10 }))
+    × (vetting (startingAt (2 ∷ []) labels steps nodes 9) 0 ≡ refuses 4 0)
+    × (vetting (startingAt (1 ∷ 0 ∷ []) labels steps nodes 9) 0 ≡ refuses 4 0)
+    × (vetting (startingAt (0 ∷ 1 ∷ 1 ∷ []) labels steps nodes 9) 0 ≡ refuses 4 0)
+    × (vetting (startingAt (2 ∷ []) labels ((0, 8, 1) ∷ []) nodes 9) 0 ≡ refuses 3 0)
+    × (vetting (startingAt (2 ∷ []) labels steps (set nodes 2 (10, 0, 2)) 9) 0 ≡ refuses 4 0)
+unfolding write packed vetting refusals pairsHold chained section
+    listOf lowest first forAll forSome both either rootClosed rule formulaAt lower nodeAt kindAt kinds free
+starts = (refl, refl, refl, refl, refl, refl)
 
 -- where two rows are met, the lower number is told
 rising :
-    (vetting [] 3 ≡ refuses 1 0)
+    (vetting [] 4 ≡ refuses 1 0)
     × (vetting (caseOf [] ((0, 0, 2) ∷ []) nodes 9) 0 ≡ refuses 2 0)
     × (vetting (caseOf labels ((0, 8, 1) ∷ []) nodes 10) 0 ≡ refuses 3 0)
     × (vetting (caseOf labels steps (set nodes 0 (15, 0, 0)) 10) 0 ≡ refuses 4 0)
     × (vetting (caseOf labels steps (set (set nodes 4 (12, 0, 3)) 5 (6, 8, 0)) 9) 0 ≡ refuses 5 5)
     × (vetting (caseOf labels steps (set nodes 4 (12, 0, 3)) 1) 0 ≡ refuses 6 9)
-    × (vetting (caseOf labels steps nodes 4) 3 ≡ refuses 7 0)
+    × (vetting (caseOf labels steps nodes 4) 4 ≡ refuses 7 0)
 unfolding write packed vetting refusals pairsHold chained section
     listOf lowest first forAll forSome both either rootClosed rule formulaAt lower nodeAt kindAt kinds free
 rising = (refl, refl, refl, refl, refl, refl, refl)
 
 -- an opened section is its bytes; a refusal opens nothing
-parts : (opening F 1 ≡ 0 ∷ 0 ∷ 1 ∷ 1 ∷ 1 ∷ 1 ∷ []) × (opening F 3 ≡ [])
+parts :
+    (opening F 1 ≡ 0 ∷ 0 ∷ 1 ∷ 1 ∷ 1 ∷ 1 ∷ [])
+    × (opening (startingAt (0 ∷ 1 ∷ []) labels steps nodes 9) 3 ≡ 0 ∷ 1 ∷ [])
+    × (opening F 4 ≡ [])
 unfolding write packed vetting opening refusals pairsHold chained section
     listOf lowest first forAll forSome both either rootClosed rule formulaAt lower nodeAt kindAt kinds free
-parts = (refl, refl)
+parts = (refl, refl, refl)

@@ -1,5 +1,6 @@
 pub mod Examples
 pub mod EditExamples
+pub mod StartExamples
 pub mod Lists
 pub mod Tests
 pub mod Laying
@@ -9,6 +10,9 @@ pub mod Codec
 pub mod KindLines
 pub mod ModalKinds
 pub mod Valid
+pub mod Order
+pub mod Selected
+pub mod Starts
 pub mod Steps
 pub mod Nodes
 pub mod Judged
@@ -17,6 +21,7 @@ pub mod Written
 pub mod Places
 pub mod StepOrder
 pub mod MovedStates
+pub mod MergedStarts
 pub mod Merged
 pub mod Unlike
 pub mod Lawful

@@ -29,6 +29,7 @@ use Rattle.case_model.proofs.Accepting.{valid-accepted}
 use Rattle.case_model.proofs.StepOrder.{inOrder-next, listed-inOrder, inOrder-in, steps-right}
 use Rattle.case_model.proofs.MovedStates.{stays, stays-low, stays-high, stays-lt, lt-stays, stays-moved}
 use Rattle.case_model.proofs.MovedStates.{moved-at, moved-lt, movedSteps-use, movedSteps-mk}
+use Rattle.case_model.proofs.MergedStarts.{new-starts-right}
 
 -- alike states are in the set x or neither is
 abbrev pub UnionOfClasses : Case → ℕ → Type 0
@@ -94,7 +95,7 @@ module _ {c : Case} (valid : Valid standard c) (k r : ℕ) (kr : k < r) (rn : r 
   unfolding merge rule nodeAt
   merge-rule = refl
 
-  merge-few : length (merge c k r .labels) ≤ 16
+  pub merge-few : length (merge c k r .labels) ≤ 16
   merge-few = rw merge-states (omega (arith, valid .table .few))
 
   -- row 3
@@ -103,6 +104,10 @@ module _ {c : Case} (valid : Valid standard c) (k r : ℕ) (kr : k < r) (rn : r 
       steps-right (merge c k r) merge-few
       (rw merge-states (unfold merge in inOrder-in step (length (c .labels) - 1) (omega (arith, valid .table .few)) step-in))
       (unfold merge in inOrder-next step)
+
+  -- a state of the old case goes to one of the new
+  pub moved-in : (s : ℕ) → s < length (c .labels) → moved k r s < length (merge c k r .labels)
+  moved-in s i = rw merge-states (moved-lt k r _ s kr rn i)
 
   pub merge-valid : Valid standard (merge c k r)
   merge-valid = record {
@@ -114,15 +119,12 @@ module _ {c : Case} (valid : Valid standard c) (k r : ℕ) (kr : k < r) (rn : r 
       closed = unfold rootClosed in rw merge-rule (valid .rule .closed);
     };
     table = record { some = rw merge-states (omega arith); few = merge-few; steps = merge-steps };
+    starts = new-starts-right valid k r merge-few moved-in;
   }
 
   -- so it is written as an accepted file
   pub merge-accepted : refusals standard (write (merge c k r)) ≡ sound
   merge-accepted = valid-accepted (merge c k r) merge-valid
-
-  -- a state of the old case goes to one of the new, and one of the new is from one of the old
-  pub moved-in : (s : ℕ) → s < length (c .labels) → moved k r s < length (merge c k r .labels)
-  moved-in s i = rw merge-states (moved-lt k r _ s kr rn i)
 
   -- ---- alike states
   module _ (kr-alike : T (alike (table c) k r)) where

@@ -54,6 +54,13 @@ module _ (k r : ℕ) where
   unfolding moved
   moved-high s h = rw (ne-eqb s r (λ e. omega arith), lt-ltb r s h)
 
+  -- whatever is removed, a state of n moves to one of n
+  pub moved-inside : (n s : ℕ) → k < n → s < n → moved k r s < n
+  moved-inside n s h i = elim (decLt s r) [
+    | yes l ↦ rw (moved-low s l) i
+    | no l ↦ elim (ℕ-discrete s r) [ yes e ↦ rw (e, moved-at) h | no e ↦ rw (moved-high s (omega arith)) (omega arith) ]
+  ]
+
   -- a state of n moves to one of n - 1
   pub moved-lt : (n s : ℕ) → k < r → r < n → s < n → moved k r s < n - 1
   moved-lt n s kr rn i = elim (decLt s r) [

@@ -12,7 +12,7 @@ use Rattle.case_model.specs.Limits.{Limits}
 use Rattle.case_model.specs.Bytes.{byteAt, size, pairsHold}
 use Rattle.case_model.specs.Case.{Case, read, triples}
 use Rattle.case_model.specs.Rows.{Found, sound, refused, _orElse_, unless, lowest, refusals}
-use Rattle.case_model.specs.Rows.{labelsHold, stepWrong, ruleHolds, nodeWrong, binderWrong, rootClosed}
+use Rattle.case_model.specs.Rows.{labelsHold, stepWrong, ruleHolds, startsRise, nodeWrong, binderWrong, rootClosed}
 use Rattle.case_model.proofs.Lists.{length-listOf}
 
 pub data Placed : Found → Type 0 where
@@ -46,10 +46,9 @@ refusals-placed most f bytes =
     later
     (then
     (then
-    (later
+    (then
     (then (later (at-zero (pairsHold most f) 1) (labelsHold most c) 2) (then (at-zero (eqb (size f 1 % 3) 0) 3) (at-lowest 3 (stepWrong c) _ (few 1))))
-    (ruleHolds f c)
-    4)
+    (later (at-zero (ruleHolds f c) 4) (startsRise c) 4))
     (at-lowest 5 (nodeWrong c) _ (few 2)))
     (at-lowest 6 (binderWrong c) _ (few 2)))
     (rootClosed c)

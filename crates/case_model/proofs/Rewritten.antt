@@ -65,4 +65,5 @@ rewritten-valid valid law j is few =
     record {
       rule = rewrite-valid (valid .rule) law j is few;
       table = record { some = unfold rewrite in t .some; few = unfold rewrite in t .few; steps = unfold rewrite in t .steps };
+      starts = unfold rewrite in valid .starts;
     }

@@ -12,7 +12,7 @@ use Rattle.case_model.specs.Merging.{merging}
 use Rattle.case_model.specs.Book.{Edit, Book, begun, reply, entered, turn, book}
 use Rattle.case_model.specs.Run.{Call, edit, Promised, handed, Calls, ended, called, Each, UnlikeTold, replies, Kept}
 use Rattle.case_model.proofs.Unlike.{unlike-exactly}
-use Rattle.case_model.proofs.Demand.{Stands, book-stands, stands-judged}
+use Rattle.case_model.proofs.Demand.{Stands, book-stands, stands-judged, starts-judged}
 
 -- the file handed on is the one that the book enters
 handed-entered : (b : Book) (e : Edit) (r : Reply (List ℕ)) (before : List ℕ) → handed (b .file) (counted r) (written r before) ≡ entered b e r .file
@@ -60,4 +60,12 @@ pub demand-3 : (first : List ℕ) (l : List Call) (last : List ℕ) → refusals
 demand-3 first l last ok calls =
     let (file, told) = run (begun first) l first last refl calls in
     let S : Stands first last (book (begun first) (map edit l) .standing) = rw file at (book-stands first ok (map edit l)) in
-    record { file = file; told = told; unlike = each-unlike first l last ok calls; accepted = S .accepted; within = S .within; verdicts = stands-judged ok S }
+    record {
+      file = file;
+      told = told;
+      unlike = each-unlike first l last ok calls;
+      accepted = S .accepted;
+      within = S .within;
+      verdicts = stands-judged ok S;
+      starts = starts-judged ok S;
+    }

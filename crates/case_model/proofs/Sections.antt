@@ -1,20 +1,21 @@
 -- Where the pairs' rule holds, every section lies within the file and is that part of it; and the laws of what a row finds.
 -- The rule is followed by induction over the number of sections; a search that finds nothing passed every place.
 use Prim.Native.Nat.{ℕ, zero, suc, _+_, _*_, _≤_, _<_}
-use mathlib.Core.Bool.{Bool, true, false}
+use mathlib.Core.Bool.{Bool, true, false, not}
 use mathlib.Core.List.{List}
-use mathlib.Core.Path.{_≡_, refl, _∙_}
+use mathlib.Core.Path.{_≡_, refl, sym, _∙_, subst}
 use native.Mathlib.Decide.{ℕ-discrete}
 use native.Mathlib.Omega.{arith}
-use borrow.Author.Tests.{eqb-true, eq-eqb}
+use borrow.Author.Tests.{eqb-true, eq-eqb, not-true}
+use lib.Dec.{T}
 use lib.ListN.{length, take, drop}
-use Rattle.flc.specs.Sets.{first}
-use Rattle.flc.proofs.Tests.{first-least}
+use Rattle.flc.specs.Sets.{forAll, first}
+use Rattle.flc.proofs.Tests.{forAll-use, forAll-mk, first-least}
 use Rattle.case_model.specs.Bytes.{offset, size, chained, pairsHold, section}
 use Rattle.case_model.specs.Limits.{Limits, sections}
 use Rattle.case_model.specs.Rows.{Found, sound, refused, _orElse_, unless, lowest}
 use Rattle.case_model.proofs.Lists.{listOf-part}
-use Rattle.case_model.proofs.Tests.{is-false, and-l, and-r}
+use Rattle.case_model.proofs.Tests.{is-true, is-false, and-l, and-r}
 
 -- ---- sections
 -- c chained sections from section k on, the first at `at`
@@ -78,3 +79,10 @@ pub sound-lowest : (k : ℕ) (wrong : ℕ → Bool) (c : ℕ) → ((i : ℕ) →
 unfolding lowest
 sound-lowest k wrong c h =
     rw (eq-eqb (first wrong 0 c) c (first-none wrong 0 c (λ x l r. h x (omega arith)) ∙ omega arith))
+
+-- a list of which no element is at fault
+pub none-wrong : (wrong : ℕ → Bool) (c : ℕ) → forAll c (λ i. not (wrong i)) ≡ true → (i : ℕ) → i < c → wrong i ≡ false
+none-wrong wrong c e i h = not-true (wrong i) (is-true _ (forAll-use c (λ i. not (wrong i)) (subst T (sym e) tt) i h))
+
+pub wrong-none : (wrong : ℕ → Bool) (c : ℕ) → ((i : ℕ) → i < c → wrong i ≡ false) → forAll c (λ i. not (wrong i)) ≡ true
+wrong-none wrong c h = is-true _ (forAll-mk c (λ i. not (wrong i)) (λ i k. rw (h i k) tt))

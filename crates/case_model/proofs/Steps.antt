@@ -1,13 +1,13 @@
 -- The steps of a valid case are in range and strictly rising, so there are at most 2048 of them.
--- A triple in range is ordered as its number, 128 from + 16 action + to, and step i has a number of at least i.
-use Prim.Native.Nat.{ℕ, zero, suc, _+_, _*_, _-_, _≤_, _<_, suc-le-suc}
+-- A triple in range is ordered as its number, 128 from + 16 action + to, which is below 2048.
+use Prim.Native.Nat.{ℕ, zero, suc, _+_, _*_, _≤_, _<_, suc-le-suc}
 use mathlib.Core.Bool.{Bool, true, false, _&&_, _||_}
 use mathlib.Core.List.{List, [], _∷_}
 use mathlib.Core.Path.{_≡_, refl, sym, subst}
 use native.Mathlib.Decide.{decLt, ℕ-discrete}
 use native.Mathlib.Nat.{not-suc-le-zero}
 use native.Mathlib.Omega.{arith}
-use borrow.Author.Tests.{eqb-true, ltb-true, not-false, lt-ltb, le-ltb, eq-eqb, ne-eqb}
+use borrow.Author.Tests.{eqb-true, ltb-true, lt-ltb, le-ltb, eq-eqb}
 use lib.Dec.{T, eqb, ltb, eqb→eq}
 use lib.ListN.{length}
 use Rattle.flc.specs.Formula.{actions}
@@ -15,8 +15,9 @@ use Rattle.flc.proofs.Tests.{both-left, both-right, either-use}
 use Rattle.case_model.specs.Limits.{mostStates}
 use Rattle.case_model.specs.Case.{Case, listed, at}
 use Rattle.case_model.specs.Kinds.{Triple}
-use Rattle.case_model.specs.Rows.{rises, stepWrong}
+use Rattle.case_model.specs.Rows.{rises, stepFits}
 use Rattle.case_model.proofs.Tests.{and-l, and-r}
+use Rattle.case_model.proofs.Order.{order-in, order-next, rising-few}
 use Rattle.case_model.specs.Valid.{ValidTable}
 
 -- a step between n states
@@ -68,14 +69,11 @@ listed-at (x ∷ l) s a t h = either-use _ _
     (0, omega arith, λ z. (eqb→eq (x .0) s (both-left _ _ e) z, eqb→eq (x .1) a (both-left _ _ r) z, eqb→eq (x .2) t (both-right _ _ r) z)))
     (λ r. let (i, k, e) = listed-at l s a t r in (suc i, suc-le-suc k, e)) h
 
--- from a test that says what is wrong to each part of what is right
-ruleset tests = (not-false, and-l, and-r)
-
 module _ {most : ℕ} {c : Case} (valid : ValidTable most c) where
   pub step-in : (i : ℕ) → i < length (c .steps) → InRange (length (c .labels)) (at (c .steps) i)
   step-in i h =
-      let e : stepWrong c i ≡ false = valid .steps i h in
-      record { from = ltb-true _ _ (search tests); action = ltb-true _ _ (search tests); to = ltb-true _ _ (search tests) }
+      let e : stepFits (length (c .labels)) (at (c .steps) i) ≡ true = order-in (stepFits (length (c .labels))) rises (at (c .steps)) i (valid .steps i h) in
+      record { from = ltb-true _ _ (search (and-l, and-r)); action = ltb-true _ _ (search (and-l, and-r)); to = ltb-true _ _ (search (and-l, and-r)) }
 
   -- a transition of the table
   pub listed-in : (s a t : ℕ) → T (listed (c .steps) s a t) → InRange (length (c .labels)) (s, a, t)
@@ -86,11 +84,8 @@ module _ {c : Case} (valid : ValidTable mostStates c) where
   -- a step and the next
   pub step-next : (i : ℕ) → suc i < length (c .steps) → number (at (c .steps) i) < number (at (c .steps) (suc i))
   step-next i h =
-      let e : stepWrong c (suc i) ≡ false = valid .steps (suc i) h in
-      let r : (eqb (suc i) 0 || rises (at (c .steps) (suc i - 1)) (at (c .steps) (suc i))) ≡ true = search tests in
-      let p : suc i - 1 ≡ i = omega arith in
-      let z : eqb (suc i) 0 ≡ false = ne-eqb (suc i) 0 (λ q. omega arith) in
-      rises-number (valid .few) (at (c .steps) i) (at (c .steps) (suc i)) (step-in valid i (omega arith)) (step-in valid (suc i) h) (rw (p, z) at r)
+      rises-number (valid .few) (at (c .steps) i) (at (c .steps) (suc i)) (step-in valid i (omega arith)) (step-in valid (suc i) h)
+      (order-next (stepFits (length (c .labels))) rises (at (c .steps)) i (valid .steps (suc i) h))
 
   pub numbers-rise : (i j : ℕ) → i < j → j < length (c .steps) → number (at (c .steps) i) < number (at (c .steps) j)
   numbers-rise i zero l h = absurd (not-suc-le-zero l)
@@ -104,14 +99,5 @@ module _ {c : Case} (valid : ValidTable mostStates c) where
   steps-rise i j l h =
       subst T (sym (number-rises (valid .few) _ _ (step-in valid i (omega arith)) (step-in valid j h) (numbers-rise i j l h))) tt
 
-  number-least : (i : ℕ) → i < length (c .steps) → i ≤ number (at (c .steps) i)
-  number-least zero h = omega arith
-  number-least (suc i) h = omega (arith, number-least i (omega arith), step-next i h)
-
   pub steps-few : length (c .steps) ≤ 2048
-  steps-few = elim (decLt 0 (length (c .steps))) [
-    | yes h ↦
-        let i : ℕ = length (c .steps) - 1 in
-        omega (arith, number-least i (omega arith), step-in valid i (omega arith), valid .few)
-    | no h ↦ omega arith
-  ]
+  steps-few = rising-few (λ i. number (at (c .steps) i)) (length (c .steps)) step-next 2048 (λ i h. omega (arith, step-in valid i h, valid .few))

@@ -9,10 +9,10 @@ use lib.ListN.{length}
 use Rattle.case_model.specs.Limits.{Limits}
 use Rattle.case_model.specs.Bytes.{pairsHold}
 use Rattle.case_model.specs.Case.{read}
-use Rattle.case_model.specs.Rows.{sound, stepWrong, nodeWrong, binderWrong, refusals}
+use Rattle.case_model.specs.Rows.{sound, stepWrong, startWrong, nodeWrong, binderWrong, refusals}
 use Rattle.case_model.specs.Valid.{Valid}
 use Rattle.case_model.proofs.Tests.{and-l, and-r}
-use Rattle.case_model.proofs.Sections.{left-sound, right-sound, unless-sound, lowest-sound}
+use Rattle.case_model.proofs.Sections.{left-sound, right-sound, unless-sound, lowest-sound, none-wrong}
 
 -- from an accepted file back to each row, and to each part of its test
 ruleset rows = (left-sound, right-sound, unless-sound, and-l, and-r)
@@ -40,4 +40,5 @@ module _ (most : Limits) (f : List ℕ) (e : refusals most f ≡ sound) where
           few = leb-true _ _ (search rows depth 10);
           steps = lowest-sound 3 (stepWrong (read f)) (length (read f .steps)) (search rows depth 10);
         };
+        starts = none-wrong (startWrong (read f)) (length (read f .starts)) (search rows depth 10);
       }

@@ -4,10 +4,11 @@ use Prim.Native.Nat.{ℕ, zero, suc, _+_, _*_, _≤_, _<_, suc-le-suc}
 use mathlib.Core.Bool.{true, _&&_}
 use mathlib.Core.List.{List, [], _∷_, _++_, map}
 use mathlib.Core.Path.{_≡_}
+use native.Mathlib.Decide.{decLt}
 use native.Mathlib.Omega.{arith}
 use borrow.Author.Tests.{eqb-true, ltb-true}
 use lib.Dec.{ltb}
-use lib.ListN.{length, length-append}
+use lib.ListN.{length, length-append, List·getD-eq-default}
 use Rattle.case_model.specs.Limits.{sections, variables, standard}
 use Rattle.case_model.specs.Bytes.{byteAt, pairs, joined, packed}
 use Rattle.case_model.specs.Case.{Case, flat, write, at}
@@ -17,6 +18,7 @@ use Rattle.case_model.proofs.KindLines.{Line, constant, variable, pair,
 use Rattle.case_model.proofs.Codec.{length-packed, parts, length-write}
 use Rattle.case_model.specs.Valid.{Valid}
 use Rattle.case_model.proofs.Steps.{step-in, steps-few}
+use Rattle.case_model.proofs.Starts.{start-in, starts-few}
 
 -- ---- lists of bytes
 record Bytes (l : List ℕ) : Type 0 where
@@ -79,12 +81,19 @@ unfolding write packed
 write-bytes c valid labels i =
     joint (pairs (4 * sections) (map length (parts c)))
     (bytes-pairs (parts c) (4 * sections)
-    (omega (arith, length-packed (parts c), length-write c, steps-few (valid .table), valid .table .few, valid .rule .most)))
+    (omega (arith, length-packed (parts c), length-write c, steps-few (valid .table), starts-few valid, valid .table .few, valid .rule .most)))
     (joint (c .labels) (record { small = labels }) (joint (flat (c .steps)) (bytes-flat (c .steps) step)
     (joint (flat (c .nodes) ++ (c .root ∷ []))
-    (joint (flat (c .nodes)) (bytes-flat (c .nodes) node) (more (omega (arith, valid .rule .root, valid .rule .most)) none)) none)))
+    (joint (flat (c .nodes)) (bytes-flat (c .nodes) node) (more (omega (arith, valid .rule .root, valid .rule .most)) none))
+    (joint (c .starts) (record { small = start }) none))))
     .small i
   where
+    start : (i : ℕ) → byteAt (c .starts) i < 256
+    start i = elim (decLt i (length (c .starts))) [
+      | yes h ↦ omega (arith, start-in valid i h, valid .table .few)
+      | no h ↦ rw (List·getD-eq-default (c .starts) 0 {n = i} (omega arith)) (omega arith)
+    ]
+
     step : (i : ℕ) → i < length (c .steps) → Small (at (c .steps) i)
     step i h =
         let r = step-in (valid .table) i h in

@@ -15,6 +15,7 @@ pub record Case : Type 0 where
   pub steps : List Triple
   pub nodes : List Triple
   pub root : ℕ
+  pub starts : List ℕ
 
 -- ---- reading and writing
 abbrev pub tripleAt : List ℕ → ℕ → Triple
@@ -24,13 +25,14 @@ tripleAt f at = (byteAt f at, byteAt f (at + 1), byteAt f (at + 2))
 abbrev pub triples : List ℕ → ℕ → List Triple
 triples f k = listOf (size f k / 3) (λ i. tripleAt f (offset f k + 3 * i))
 
--- clauses 1.4, 1.5 and 1.6: labels, steps, nodes, and the root behind the nodes
+-- clauses 1.4, 1.5, 1.6 and 1.16: labels, steps, nodes, the root behind the nodes, and start states
 abbrev pub read : List ℕ → Case
 read f = record {
   labels = section f 0;
   steps = triples f 1;
   nodes = triples f 2;
   root = byteAt f (offset f 2 + 3 * (size f 2 / 3));
+  starts = section f 3;
 }
 
 abbrev pub flat : List Triple → List ℕ
@@ -39,7 +41,7 @@ flat (t ∷ l) = t .0 ∷ t .1 ∷ t .2 ∷ flat l
 
 -- clause 1.15: the sections behind their head
 unfoldable pub write : Case → List ℕ
-write c = packed (c .labels ∷ flat (c .steps) ∷ (flat (c .nodes) ++ (c .root ∷ [])) ∷ [])
+write c = packed (c .labels ∷ flat (c .steps) ∷ (flat (c .nodes) ++ (c .root ∷ [])) ∷ c .starts ∷ [])
 
 -- ---- the state table
 -- (s, a, t) is in the list

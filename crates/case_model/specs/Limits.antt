@@ -2,9 +2,9 @@
 use Prim.Native.Nat.{ℕ, _^_}
 use Rattle.flc.specs.Formula.{actions}
 
--- clause 1.1: a pair for each of three sections
+-- clause 1.1: a pair for each of four sections
 abbrev pub sections : ℕ
-sections = 3
+sections = 4
 
 -- clauses 1.6 and 1.7: how many nodes, propositions, variables and groups of actions there can be
 abbrev pub mostNodes : ℕ
@@ -29,4 +29,4 @@ abbrev pub mostStates : ℕ
 mostStates = 16
 
 abbrev pub standard : Limits
-standard = record { longest = 6365; states = mostStates }
+standard = record { longest = 6385; states = mostStates }

@@ -1,13 +1,13 @@
 -- Classes of alike states, and merging: docs/SPECIFICATION.md, 4.3 to 4.7, with refusals 8, 10 and 13.
 use Prim.Native.Nat.{ℕ, zero, suc, _-_, _/_, _%_, min, max}
-use mathlib.Core.Bool.{Bool, _&&_, not, cond}
-use mathlib.Core.List.{List, [], _∷_, _++_}
+use mathlib.Core.Bool.{Bool, false, _&&_, not, cond}
+use mathlib.Core.List.{List, [], _∷_, _++_, map}
 use lib.Dec.{eqb, ltb}
 use lib.ListN.{length, take, drop}
-use Rattle.flc.specs.Sets.{first}
+use Rattle.flc.specs.Sets.{either, first}
 use Rattle.flc.specs.Formula.{Table}
 use Rattle.flc.specs.Bisimulation.{alike}
-use Rattle.case_model.specs.Limits.{standard}
+use Rattle.case_model.specs.Limits.{mostStates, standard}
 use Rattle.case_model.specs.Bytes.{listOf}
 use Rattle.case_model.specs.Case.{Case, read, write, listed, table}
 use Rattle.case_model.specs.Kinds.{Triple}
@@ -34,19 +34,31 @@ movedSteps k r [] = []
 movedSteps k r (t ∷ l) =
     cond (eqb (t .0) r) (movedSteps k r l) ((moved k r (t .0), t .1, moved k r (t .2)) ∷ movedSteps k r l)
 
--- clause 4.5, sorted and without repeats: the steps among the triples numbered below x, where (s, a, t) has the number 128 s + 16 a + t
-unfoldable pub inOrder : ℕ → (ℕ → ℕ → ℕ → Bool) → List Triple
-inOrder zero step = []
-inOrder (suc x) step =
-    inOrder x step ++ cond (step (x / 128) (x / 16 % 8) (x % 16)) ((x / 128, x / 16 % 8, x % 16) ∷ []) []
+-- h x for each number x below n of which p holds: sorted, and without repeats
+unfoldable pub selected : {A : Type 0} → ℕ → (ℕ → Bool) → (ℕ → A) → List A
+selected zero p h = []
+selected (suc x) p h = selected x p h ++ cond (p x) (h x ∷ []) []
 
--- clause 4.5: the merged case
+-- clause 4.5: the steps among the triples numbered below n, where (s, a, t) has the number 128 s + 16 a + t
+abbrev pub numbered : ℕ → Triple
+numbered x = (x / 128, x / 16 % 8, x % 16)
+
+unfoldable pub inOrder : ℕ → (ℕ → ℕ → ℕ → Bool) → List Triple
+inOrder n step = selected n (λ x. step (x / 128) (x / 16 % 8) (x % 16)) numbered
+
+-- clause 4.8: s is in the list
+unfoldable pub isIn : List ℕ → ℕ → Bool
+isIn [] s = false
+isIn (x ∷ l) s = either (eqb x s) (isIn l s)
+
+-- clauses 4.5 and 4.8: the merged case
 unfoldable pub merge : Case → ℕ → ℕ → Case
 merge c k r = record {
   labels = take r (c .labels) ++ drop (suc r) (c .labels);
   steps = inOrder 2048 (listed (movedSteps k r (c .steps)));
   nodes = c .nodes;
   root = c .root;
+  starts = selected mostStates (isIn (map (moved k r) (c .starts))) (λ s. s);
 }
 
 -- clause 8.10: one state, or two that are not alike

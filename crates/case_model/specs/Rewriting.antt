@@ -67,7 +67,7 @@ secondRenamed (bind d v b) g x = g x
 abbrev pub renamed : (ℕ → ℕ) → Triple → Triple
 renamed g t = (t .0, firstRenamed (nodeOf t) g (t .1), secondRenamed (nodeOf t) g (t .2))
 
--- clauses 5.2, 5.3 and 5.4: the rewritten case
+-- clauses 5.2, 5.3, 5.4 and 5.7: the rewritten case
 unfoldable pub rewrite : Case → ℕ → Change → Case
 rewrite c j nothing = c
 rewrite c j (swap l g) = record {
@@ -75,6 +75,7 @@ rewrite c j (swap l g) = record {
   steps = c .steps;
   nodes = map (renamed g) (take j (c .nodes)) ++ (l ++ map (renamed g) (drop (suc j) (c .nodes)));
   root = g (c .root);
+  starts = c .starts;
 }
 
 -- clauses 5.1, 7.4, 8.11 and 8.12: refusals 1 to 7 and 11 to 13, or the new file

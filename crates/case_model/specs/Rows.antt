@@ -6,7 +6,7 @@ use lib.ListN.{length}
 use lib.Dec.{eqb, leb, ltb}
 use Rattle.flc.specs.Sets.{forAll, forSome, first}
 use Rattle.flc.specs.Formula.{free, actions}
-use Rattle.case_model.specs.Bytes.{size, pairsHold}
+use Rattle.case_model.specs.Bytes.{byteAt, size, pairsHold}
 use Rattle.case_model.specs.Limits.{Limits, mostNodes, variables}
 use Rattle.case_model.specs.Kinds.{Triple, nodeOf, nodeHolds, isBinder}
 use Rattle.case_model.specs.Case.{Case, read, at, nodeAt, rule}
@@ -31,18 +31,27 @@ unless false k p = refused k p
 unfoldable pub lowest : ℕ → (ℕ → Bool) → ℕ → Found
 lowest k wrong c = unless (eqb (first wrong 0 c) c) k (first wrong 0 c)
 
+-- element i of a list is at fault, by itself or because it does not come after the one before it
+abbrev pub outOfOrder : {A : Type 0} → (A → Bool) → (A → A → Bool) → (ℕ → A) → ℕ → Bool
+outOfOrder inRange after l i = not (inRange (l i) && (eqb i 0 || after (l (i - 1)) (l i)))
+
 -- clause 1.5: u comes after t
 abbrev pub rises : Triple → Triple → Bool
 rises t u =
     ltb (t .0) (u .0)
     || (eqb (t .0) (u .0) && (ltb (t .1) (u .1) || (eqb (t .1) (u .1) && ltb (t .2) (u .2))))
 
--- clauses 7.2 and 8.3: step i is at fault, by itself or as the second of two out of order
+-- clause 8.3: a step between n states
+abbrev pub stepFits : ℕ → Triple → Bool
+stepFits n t = ltb (t .0) n && ltb (t .1) actions && ltb (t .2) n
+
+-- clauses 7.2 and 8.3: step i is at fault
 abbrev pub stepWrong : Case → ℕ → Bool
-stepWrong c i =
-    not (ltb (at (c .steps) i .0) (length (c .labels)) && ltb (at (c .steps) i .1) actions
-    && ltb (at (c .steps) i .2) (length (c .labels))
-    && (eqb i 0 || rises (at (c .steps) (i - 1)) (at (c .steps) i)))
+stepWrong c = outOfOrder (stepFits (length (c .labels))) rises (at (c .steps))
+
+-- clauses 1.16 and 8.4: start state i is at fault
+abbrev pub startWrong : Case → ℕ → Bool
+startWrong c = outOfOrder (λ s. ltb s (length (c .labels))) ltb (byteAt (c .starts))
 
 -- clause 8.5: node j is at fault
 abbrev pub nodeWrong : Case → ℕ → Bool
@@ -76,13 +85,16 @@ row2 most c = unless (labelsHold most c) 2 0
 abbrev pub row3 : List ℕ → Case → Found
 row3 f c = unless (eqb (size f 1 % 3) 0) 3 0 orElse lowest 3 (stepWrong c) (length (c .steps))
 
--- clause 8.4: whole nodes, 1 to 64 of them, then the number of one
+-- clause 8.4: whole nodes, 1 to 64 of them, then the number of one; and after that the start states
 abbrev pub ruleHolds : List ℕ → Case → Bool
 ruleHolds f c =
     eqb (size f 2 % 3) 1 && leb 1 (length (c .nodes)) && leb (length (c .nodes)) mostNodes && ltb (c .root) (length (c .nodes))
 
+abbrev pub startsRise : Case → Bool
+startsRise c = forAll (length (c .starts)) (λ i. not (startWrong c i))
+
 abbrev pub row4 : List ℕ → Case → Found
-row4 f c = unless (ruleHolds f c) 4 0
+row4 f c = unless (ruleHolds f c) 4 0 orElse unless (startsRise c) 4 0
 
 -- clauses 8.5 and 8.6: at the lowest node that is wrong
 abbrev pub row5 : Case → Found

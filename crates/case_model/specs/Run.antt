@@ -7,9 +7,10 @@ use mathlib.Core.Logic.{_↔_}
 use mathlib.Core.Path.{_≡_}
 use lib.Dec.{T}
 use lib.ListN.{length, take}
-use Rattle.flc.specs.Sets.{has, setOf}
+use Rattle.flc.specs.Sets.{forAll, has, setOf}
 use Rattle.flc.specs.Bisimulation.{bisimulation}
 use Rattle.case_model.specs.Limits.{standard}
+use Rattle.case_model.specs.Bytes.{byteAt}
 use Rattle.case_model.specs.Case.{Case, read, table}
 use Rattle.case_model.specs.Rows.{sound, refusals}
 use Rattle.case_model.specs.Replies.{Reply, answers, refuses, counted, written}
@@ -70,8 +71,17 @@ inAnswer (refuses k p) s = false
 unfoldable pub holds : List ℕ → ℕ → ℕ → Bool
 holds f words s = inAnswer (judging f (allStates (read f)) words) s
 
--- clause 6.7, demand 3, of the list as a whole: file and replies are the plain book's, unlike is told as it must be, the last file is accepted, and a state of
--- the first case holds in it exactly if the state that stands for it holds in the last, with work area enough at both ends
+-- p holds of every start state; without start states, that is so
+unfoldable pub everyStart : Case → (ℕ → Bool) → Bool
+everyStart c p = forAll (length (c .starts)) (λ i. p (byteAt (c .starts) i))
+
+-- clause 3.5: every start state holds, judged with so many words
+unfoldable pub startsHold : List ℕ → ℕ → Bool
+startsHold f words = everyStart (read f) (holds f words)
+
+-- clause 6.7, demand 3, of the list as a whole: file and replies are the plain book's, unlike is told as it must be, the last file is accepted, a state of
+-- the first case holds in it exactly if the state that stands for it holds in the last, and every start state of the first case holds exactly if every one of
+-- the last does, with work area enough at both ends
 pub record Kept (first : List ℕ) (l : List Call) (last : List ℕ) : Type 0 where
   pub file : book (begun first) (map edit l) .file ≡ last
   pub told : replies (begun first) (map edit l) ≡ map (λ (c : Call). c .told) l
@@ -80,3 +90,4 @@ pub record Kept (first : List ℕ) (l : List Call) (last : List ℕ) : Type 0 wh
   pub within : (s : ℕ) → s < length (read first .labels) → book (begun first) (map edit l) .standing s < length (read last .labels)
   pub verdicts : (words words′ : ℕ) → row9 (read first) words ≡ sound → row9 (read last) words′ ≡ sound
       → (s : ℕ) → s < length (read first .labels) → holds first words s ≡ holds last words′ (book (begun first) (map edit l) .standing s)
+  pub starts : (words words′ : ℕ) → row9 (read first) words ≡ sound → row9 (read last) words′ ≡ sound → startsHold first words ≡ startsHold last words′

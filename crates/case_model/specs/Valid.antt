@@ -6,7 +6,7 @@ use lib.ListN.{length}
 use Rattle.case_model.specs.Limits.{Limits, mostNodes}
 use Rattle.case_model.specs.Kinds.{nodeHolds}
 use Rattle.case_model.specs.Case.{Case, at}
-use Rattle.case_model.specs.Rows.{stepWrong, binderWrong, rootClosed}
+use Rattle.case_model.specs.Rows.{stepWrong, startWrong, binderWrong, rootClosed}
 
 -- clauses 8.4 to 8.7, of the rule; the root says that there is a node
 pub record ValidRule (c : Case) : Type 0 where
@@ -25,3 +25,5 @@ pub record ValidTable (most : ℕ) (c : Case) : Type 0 where
 pub record Valid (most : Limits) (c : Case) : Type 0 where
   pub rule : ValidRule c
   pub table : ValidTable (most .states) c
+  -- clause 8.4, of the start states
+  pub starts : (i : ℕ) → i < length (c .starts) → startWrong c i ≡ false

@@ -22,6 +22,8 @@ pub use parts::node_count;
 pub use parts::root;
 pub use parts::section_offset;
 pub use parts::section_size;
+pub use parts::start;
+pub use parts::start_count;
 pub use parts::state_count;
 pub use parts::step;
 pub use parts::step_count;

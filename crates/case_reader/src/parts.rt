@@ -3,7 +3,7 @@ ghost use Prim.Native.Nat.{_<_};
 ghost use lib.ListN.{length, getD};
 ghost use lib.Dec.{ltb};
 ghost use mathlib.Core.Bool.{cond};
-ghost use Rattle.case_model.specs.Bytes.{offset, size};
+ghost use Rattle.case_model.specs.Bytes.{offset, size, section};
 ghost use Rattle.case_model.specs.Limits.{sections};
 ghost use Rattle.case_model.specs.Case.{read, triples, at};
 ghost use Rattle.case_reader.specs.Read.{Is, IsTriple};
@@ -11,7 +11,7 @@ use crate::bytes::byte;
 use crate::bytes::word;
 
 // How many sections a file has.
-pub const SECTIONS: usize = 3;
+pub const SECTIONS: usize = 4;
 
 // A step (from, action, to), or a node (kind, A, B).
 pub struct Triple(pub usize, pub usize, pub usize);
@@ -60,20 +60,48 @@ fn triple_at(file: &[u8], section: usize, i: usize) -> Triple
     )
 }
 
+// How many bytes section k has.
+fn byte_count(file: &[u8], k: usize) -> usize
+    requires { ⌜ k < sections ⌝ }
+    ensures { λ r. ⌜ Is (length (section (now (file .entry)) k)) 65536 r ⌝ }
+{
+    word(file, 4 * k + 2)
+}
+
+fn byte_at(file: &[u8], k: usize, i: usize) -> usize
+    requires { ⌜ k < sections ⌝ }
+    ensures { λ r. ⌜ Is (getD (section (now (file .entry)) k) i 0) 256 r ⌝ }
+{
+    if byte_count(file, k) <= i {
+        return 0;
+    }
+    byte(file, word(file, 4 * k) + i)
+}
+
 pub fn state_count(file: &[u8]) -> usize
     ensures { λ r. ⌜ Is (length (read (now (file .entry)) .labels)) 65536 r ⌝ }
 {
-    word(file, 2)
+    byte_count(file, 0)
 }
 
 // The label byte of state s.
 pub fn label(file: &[u8], s: usize) -> usize
     ensures { λ r. ⌜ Is (getD (read (now (file .entry)) .labels) s 0) 256 r ⌝ }
 {
-    if state_count(file) <= s {
-        return 0;
-    }
-    byte(file, word(file, 0) + s)
+    byte_at(file, 0, s)
+}
+
+pub fn start_count(file: &[u8]) -> usize
+    ensures { λ r. ⌜ Is (length (read (now (file .entry)) .starts)) 65536 r ⌝ }
+{
+    byte_count(file, 3)
+}
+
+// Start state i.
+pub fn start(file: &[u8], i: usize) -> usize
+    ensures { λ r. ⌜ Is (getD (read (now (file .entry)) .starts) i 0) 256 r ⌝ }
+{
+    byte_at(file, 3, i)
 }
 
 pub fn step_count(file: &[u8]) -> usize

@@ -10,3 +10,4 @@ pub use tests::labels_hold;
 pub use tests::pairs_hold;
 pub use tests::root_closed;
 pub use tests::rule_holds;
+pub use tests::starts_rise;

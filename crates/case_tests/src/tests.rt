@@ -6,7 +6,7 @@ ghost use Rattle.flc.specs.Sets.{forSome, first};
 ghost use Rattle.case_model.specs.Bytes.{chained, pairsHold};
 ghost use Rattle.case_model.specs.Limits.{sections, mostNodes};
 ghost use Rattle.case_model.specs.Case.{read, at};
-ghost use Rattle.case_model.specs.Rows.{rises, stepWrong, nodeWrong, binds, binderWrong, labelsHold, ruleHolds, rootClosed};
+ghost use Rattle.case_model.specs.Rows.{rises, stepWrong, startWrong, nodeWrong, binds, binderWrong, labelsHold, ruleHolds, startsRise, rootClosed};
 ghost use Rattle.case_reader.specs.Read.{triple};
 ghost use Rattle.case_tests.specs.RowTests.{limitsOf, wrong};
 use crate::limits::Limits;
@@ -22,6 +22,8 @@ use case_reader::node_holds;
 use case_reader::root;
 use case_reader::section_offset;
 use case_reader::section_size;
+use case_reader::start;
+use case_reader::start_count;
 use case_reader::state_count;
 use case_reader::step;
 
@@ -83,6 +85,27 @@ pub fn rule_holds(file: &[u8]) -> bool
 {
     let m = node_count(file);
     (section_size(file, 2) % 3 == 1) & (1 <= m) & (m <= NODES) & (root(file) < m)
+}
+
+fn start_wrong(file: &[u8], i: usize) -> bool
+    ensures { λ r. ⌜ r ≡ startWrong (read (now (file .entry))) i ⌝ }
+{
+    let n = state_count(file);
+    let s = start(file, i);
+    let last = start(file, before(i));
+    !((s < n) & ((i == 0) | (last < s)))
+}
+
+// Are the start states states of the case, and strictly rising?
+pub fn starts_rise(file: &[u8]) -> bool
+    ensures { λ r. ⌜ r ≡ startsRise (read (now (file .entry))) ⌝ }
+{
+    let count = start_count(file);
+    let mut all = true;
+    for i in 0..count {
+        all = all & !start_wrong(file, i);
+    }
+    all
 }
 
 fn node_wrong(file: &[u8], j: usize) -> bool

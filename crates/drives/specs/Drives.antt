@@ -10,7 +10,7 @@ use Rattle.case_model.specs.Case.{Case, read, table, nodeAt, rule}
 use Rattle.case_model.specs.Rows.{sound, refusals}
 
 pub record Drive : Type 0 where
-  -- the bytes of the case file: pairs, labels, steps, nodes, root
+  -- the bytes of the case file: pairs, labels, steps, nodes, root; no start states
   pub file : List ℕ
   -- its rounds, if the drive claims any; clause 2.11 has 0 for a root that is no binder
   pub rounds : List ℕ
@@ -38,7 +38,7 @@ Right d = Shows d (read (d .file))
 abbrev pub leafOnTwoStates : ℕ → ℕ → List (ℕ × ℕ) → Drive
 leafOnTwoStates k a v = record {
   file =
-      12 ∷ 0 ∷ 2 ∷ 0 ∷ 14 ∷ 0 ∷ 9 ∷ 0 ∷ 23 ∷ 0 ∷ 4 ∷ 0
+      16 ∷ 0 ∷ 2 ∷ 0 ∷ 18 ∷ 0 ∷ 9 ∷ 0 ∷ 27 ∷ 0 ∷ 4 ∷ 0 ∷ 31 ∷ 0 ∷ 0 ∷ 0
       ∷ 0 ∷ 0
       ∷ 0 ∷ 0 ∷ 0 ∷ 0 ∷ 7 ∷ 1 ∷ 1 ∷ 3 ∷ 0
       ∷ k ∷ a ∷ 0
@@ -53,7 +53,7 @@ drives =
     -- case F, the rule μY.⟨1⟩ or ⟨0⟩;νZ.Y;Z;Y, after 2 rounds: {0, 1} of all states, {0} of none
     record {
       file =
-          12 ∷ 0 ∷ 2 ∷ 0 ∷ 14 ∷ 0 ∷ 6 ∷ 0 ∷ 20 ∷ 0 ∷ 31 ∷ 0
+          16 ∷ 0 ∷ 2 ∷ 0 ∷ 18 ∷ 0 ∷ 6 ∷ 0 ∷ 24 ∷ 0 ∷ 31 ∷ 0 ∷ 55 ∷ 0 ∷ 0 ∷ 0
           ∷ 0 ∷ 0
           ∷ 0 ∷ 0 ∷ 1 ∷ 1 ∷ 1 ∷ 1
           ∷ 4 ∷ 0 ∷ 0 ∷ 4 ∷ 1 ∷ 0 ∷ 10 ∷ 0 ∷ 1 ∷ 10 ∷ 2 ∷ 0 ∷ 12 ∷ 1 ∷ 3 ∷ 6 ∷ 0 ∷ 0 ∷ 10 ∷ 5 ∷ 4 ∷ 6 ∷ 1 ∷ 0 ∷ 8 ∷ 7 ∷ 6 ∷ 11 ∷ 0 ∷ 8
@@ -66,7 +66,7 @@ drives =
     -- in approximant 12 at {3, 7} and not in approximant 11
     record {
       file =
-          12 ∷ 0 ∷ 8 ∷ 0 ∷ 20 ∷ 0 ∷ 27 ∷ 0 ∷ 47 ∷ 0 ∷ 25 ∷ 0
+          16 ∷ 0 ∷ 8 ∷ 0 ∷ 24 ∷ 0 ∷ 27 ∷ 0 ∷ 51 ∷ 0 ∷ 25 ∷ 0 ∷ 76 ∷ 0 ∷ 0 ∷ 0
           ∷ 0 ∷ 0 ∷ 0 ∷ 0 ∷ 0 ∷ 0 ∷ 0 ∷ 0
           ∷ 0 ∷ 1 ∷ 1 ∷ 0 ∷ 2 ∷ 4 ∷ 1 ∷ 0 ∷ 2 ∷ 2 ∷ 0 ∷ 3 ∷ 3 ∷ 0 ∷ 1 ∷ 4 ∷ 0 ∷ 5 ∷ 5 ∷ 0 ∷ 6 ∷ 6 ∷ 0 ∷ 7 ∷ 7 ∷ 0 ∷ 4
           ∷ 6 ∷ 1 ∷ 0 ∷ 6 ∷ 2 ∷ 0 ∷ 9 ∷ 0 ∷ 1 ∷ 4 ∷ 0 ∷ 0 ∷ 6 ∷ 0 ∷ 0 ∷ 10 ∷ 3 ∷ 4 ∷ 8 ∷ 2 ∷ 5 ∷ 11 ∷ 0 ∷ 6
@@ -78,7 +78,7 @@ drives =
     -- example 4 of document 004, νZ.μY.(⟨0⟩;Z) and ([1];(Y or τ);⟨1⟩), where 0 steps to itself by 0, and 0 and 1 to each other by 1: {0} of all states
     record {
       file =
-          12 ∷ 0 ∷ 2 ∷ 0 ∷ 14 ∷ 0 ∷ 9 ∷ 0 ∷ 23 ∷ 0 ∷ 40 ∷ 0
+          16 ∷ 0 ∷ 2 ∷ 0 ∷ 18 ∷ 0 ∷ 9 ∷ 0 ∷ 27 ∷ 0 ∷ 40 ∷ 0 ∷ 67 ∷ 0 ∷ 0 ∷ 0
           ∷ 0 ∷ 0
           ∷ 0 ∷ 0 ∷ 0 ∷ 0 ∷ 1 ∷ 1 ∷ 1 ∷ 1 ∷ 0
           ∷ 6 ∷ 0 ∷ 0 ∷ 4 ∷ 0 ∷ 0 ∷ 10 ∷ 0 ∷ 1 ∷ 7 ∷ 1 ∷ 0 ∷ 4 ∷ 1 ∷ 0 ∷ 5 ∷ 0 ∷ 0
@@ -91,7 +91,7 @@ drives =
     -- [0] of the empty set, where a single state has no step: {0}
     record {
       file =
-          12 ∷ 0 ∷ 1 ∷ 0 ∷ 13 ∷ 0 ∷ 0 ∷ 0 ∷ 13 ∷ 0 ∷ 4 ∷ 0
+          16 ∷ 0 ∷ 1 ∷ 0 ∷ 17 ∷ 0 ∷ 0 ∷ 0 ∷ 17 ∷ 0 ∷ 4 ∷ 0 ∷ 21 ∷ 0 ∷ 0 ∷ 0
           ∷ 0
           ∷ 7 ∷ 0 ∷ 0
           ∷ 0 ∷ [];
@@ -102,7 +102,7 @@ drives =
     -- ⟨0⟩ of the same: nothing
     record {
       file =
-          12 ∷ 0 ∷ 1 ∷ 0 ∷ 13 ∷ 0 ∷ 0 ∷ 0 ∷ 13 ∷ 0 ∷ 4 ∷ 0
+          16 ∷ 0 ∷ 1 ∷ 0 ∷ 17 ∷ 0 ∷ 0 ∷ 0 ∷ 17 ∷ 0 ∷ 4 ∷ 0 ∷ 21 ∷ 0 ∷ 0 ∷ 0
           ∷ 0
           ∷ 6 ∷ 0 ∷ 0
           ∷ 0 ∷ [];
@@ -113,7 +113,7 @@ drives =
     -- τ of the same: nothing
     record {
       file =
-          12 ∷ 0 ∷ 1 ∷ 0 ∷ 13 ∷ 0 ∷ 0 ∷ 0 ∷ 13 ∷ 0 ∷ 4 ∷ 0
+          16 ∷ 0 ∷ 1 ∷ 0 ∷ 17 ∷ 0 ∷ 0 ∷ 0 ∷ 17 ∷ 0 ∷ 4 ∷ 0 ∷ 21 ∷ 0 ∷ 0 ∷ 0
           ∷ 0
           ∷ 5 ∷ 0 ∷ 0
           ∷ 0 ∷ [];
@@ -124,7 +124,7 @@ drives =
     -- μZ.Z, of both sets of one state: nothing, after 0 rounds
     record {
       file =
-          12 ∷ 0 ∷ 1 ∷ 0 ∷ 13 ∷ 0 ∷ 0 ∷ 0 ∷ 13 ∷ 0 ∷ 7 ∷ 0
+          16 ∷ 0 ∷ 1 ∷ 0 ∷ 17 ∷ 0 ∷ 0 ∷ 0 ∷ 17 ∷ 0 ∷ 7 ∷ 0 ∷ 24 ∷ 0 ∷ 0 ∷ 0
           ∷ 0
           ∷ 4 ∷ 0 ∷ 0 ∷ 11 ∷ 0 ∷ 0
           ∷ 1 ∷ [];
@@ -135,7 +135,7 @@ drives =
     -- νZ.Z, likewise: all states, after 0 rounds
     record {
       file =
-          12 ∷ 0 ∷ 1 ∷ 0 ∷ 13 ∷ 0 ∷ 0 ∷ 0 ∷ 13 ∷ 0 ∷ 7 ∷ 0
+          16 ∷ 0 ∷ 1 ∷ 0 ∷ 17 ∷ 0 ∷ 0 ∷ 0 ∷ 17 ∷ 0 ∷ 7 ∷ 0 ∷ 24 ∷ 0 ∷ 0 ∷ 0
           ∷ 0
           ∷ 4 ∷ 0 ∷ 0 ∷ 12 ∷ 0 ∷ 0
           ∷ 1 ∷ [];
@@ -146,7 +146,7 @@ drives =
     -- ⟨0⟩;(p0 and p1), where 0 steps to 1, which has p0, and to 2, which has p1: nothing of all states
     record {
       file =
-          12 ∷ 0 ∷ 3 ∷ 0 ∷ 15 ∷ 0 ∷ 6 ∷ 0 ∷ 21 ∷ 0 ∷ 16 ∷ 0
+          16 ∷ 0 ∷ 3 ∷ 0 ∷ 19 ∷ 0 ∷ 6 ∷ 0 ∷ 25 ∷ 0 ∷ 16 ∷ 0 ∷ 41 ∷ 0 ∷ 0 ∷ 0
           ∷ 0 ∷ 1 ∷ 2
           ∷ 0 ∷ 0 ∷ 1 ∷ 0 ∷ 0 ∷ 2
           ∷ 6 ∷ 0 ∷ 0 ∷ 2 ∷ 0 ∷ 0 ∷ 2 ∷ 1 ∷ 0 ∷ 9 ∷ 1 ∷ 2 ∷ 10 ∷ 0 ∷ 3
@@ -158,7 +158,7 @@ drives =
     -- (⟨0⟩;p0) and (⟨0⟩;p1) on that table: {0} of all states
     record {
       file =
-          12 ∷ 0 ∷ 3 ∷ 0 ∷ 15 ∷ 0 ∷ 6 ∷ 0 ∷ 21 ∷ 0 ∷ 19 ∷ 0
+          16 ∷ 0 ∷ 3 ∷ 0 ∷ 19 ∷ 0 ∷ 6 ∷ 0 ∷ 25 ∷ 0 ∷ 19 ∷ 0 ∷ 44 ∷ 0 ∷ 0 ∷ 0
           ∷ 0 ∷ 1 ∷ 2
           ∷ 0 ∷ 0 ∷ 1 ∷ 0 ∷ 0 ∷ 2
           ∷ 6 ∷ 0 ∷ 0 ∷ 2 ∷ 0 ∷ 0 ∷ 2 ∷ 1 ∷ 0 ∷ 10 ∷ 0 ∷ 1 ∷ 10 ∷ 0 ∷ 2 ∷ 9 ∷ 3 ∷ 4

@@ -2,19 +2,19 @@
 use Prim.Native.Nat.{ℕ, _^_, _≤_}
 use mathlib.Core.Bool.{true}
 use mathlib.Core.List.{List}
-use mathlib.Core.Path.{_≡_, refl, sym, ap, ap₂, _∙_, subst}
+use mathlib.Core.Path.{_≡_, refl, sym, ap, _∙_, subst}
 use lib.ListN.{length}
 use Rattle.flc.specs.Sets.{setOf}
 use Rattle.case_file.proofs.Answers.{replied-sound}
 use Rattle.case_model.specs.Case.{read}
 use Rattle.case_model.specs.Rows.{Found, sound, refused, _orElse_, row8, refusals}
 use Rattle.case_model.specs.Limits.{mostStates, standard}
-use Rattle.case_model.specs.Replies.{Reply, answers, refuses}
+use Rattle.case_model.specs.Replies.{Reply, answers}
 use Rattle.case_model.specs.Judging.{Verdict, verdict, row9, judging}
-use Rattle.case_model.specs.Run.{allStates}
+use Rattle.case_model.specs.Run.{allStates, inAnswer, holds, everyStart, startsHold}
 use Rattle.case_model.proofs.Sections.{left-sound}
 use Rattle.case_model.proofs.Valid.{accepted-valid}
-use Rattle.judge_case.specs.Printed.{printed, page}
+use Rattle.judge_case.specs.Printed.{refusalLine, printed, page}
 
 -- only an accepted case is answered
 pub judged-few : (f : List ℕ) (x words : ℕ) {v : Verdict} → answers v ≡ judging f x words → length (read f .labels) ≤ mostStates
@@ -33,13 +33,15 @@ all-judged f x words a = go (refusals standard f) refl
     go sound h = ap (λ y. judging f y words) (a (accepted-valid standard f h .table .few))
     go (refused k p) h = rw h
 
+-- the print of a file is that of judging's reply on such a set
 pub judged-page : (f : List ℕ) (words n x : ℕ) {r : Reply Verdict} → n ≡ length (read f .labels)
-    → (n ≤ mostStates → x ≡ setOf n (λ s. true)) → r ≡ judging f x words → printed n r ≡ page f words
-unfolding page
+    → (n ≤ mostStates → x ≡ setOf n (λ s. true)) → r ≡ judging f x words → printed n (everyStart (read f) (inAnswer r)) r ≡ page f words
+unfolding page startsHold holds
 judged-page f words n x l a h =
-    ap₂ printed l (h ∙ all-judged f x words (subst (λ k. k ≤ mostStates → x ≡ setOf k (λ s. true)) l a))
+    let e = h ∙ all-judged f x words (subst (λ k. k ≤ mostStates → x ≡ setOf k (λ s. true)) l a) in
+    λ z. printed (l z) (everyStart (read f) (inAnswer (e z))) (e z)
 
 -- the page of a file that one of rows 1 to 7 refuses
-pub refused-page : (f : List ℕ) (words k p : ℕ) → refusals standard f ≡ refused k p → page f words ≡ printed 0 (refuses k p)
-unfolding page judging printed
+pub refused-page : (f : List ℕ) (words k p : ℕ) → refusals standard f ≡ refused k p → page f words ≡ refusalLine k p
+unfolding page judging
 refused-page f words k p e = rw e

@@ -1,7 +1,7 @@
 -- Numerals, and pages of text that grow.
 -- A text after a text is one run; the digits of a number are as few as hold it, so they are its numeral.
 use Prim.Native.Nat.{ℕ, zero, suc, _+_, _-_, _/_, _^_, _≤_, _<_}
-use mathlib.Core.Bool.{Bool, true, false, cond}
+use mathlib.Core.Bool.{Bool, true, false}
 use mathlib.Core.List.{List, _++_}
 use mathlib.Core.Path.{_≡_, refl, sym, ap, ap₂, _∙_, subst}
 use native.Mathlib.Decide.{ℕ-discrete, decLt}
@@ -18,7 +18,7 @@ use Rattle.flc.proofs.Tests.{first-le}
 use Rattle.judge_case.specs.declared.Page.{Page}
 use Rattle.case_model.specs.Areas.{Laid}
 use Rattle.case_model.proofs.Laying.{laid-after, laid-whole}
-use Rattle.judge_case.specs.Printed.{yesText, noText, end, numeral, line, lines, Shows, Grew, Blank}
+use Rattle.judge_case.specs.Printed.{end, yesOrNo, numeral, line, lines, Shows, Grew, Blank}
 
 -- ---- numerals
 -- the first number from i on that passes
@@ -70,19 +70,19 @@ shows {p} {r} {l} z a h =
 pub line-short : (what : List ℕ) (n : ℕ) → length (line what n) ≤ length what + 21
 line-short what n = omega (arith, length-append what (numeral n ++ end), length-append (numeral n) end, numeral-short n)
 
-pub state-short : (s : ℕ) (b : Bool) → length (numeral s ++ cond b yesText noText) ≤ 25
-state-short s b = omega (arith, length-append (numeral s) (cond b yesText noText), numeral-short s, go b)
-  where
-    go : (b : Bool) → length (cond b yesText noText) ≤ 5
-    go true = omega arith
-    go false = omega arith
+pub answer-short : (b : Bool) → length (yesOrNo b) ≤ 5
+answer-short true = omega arith
+answer-short false = omega arith
+
+pub state-short : (s : ℕ) (b : Bool) → length (numeral s ++ yesOrNo b) ≤ 25
+state-short s b = omega (arith, length-append (numeral s) (yesOrNo b), numeral-short s, answer-short b)
 
 -- one state more
 pub one-state : {p q r : Page} (s x : ℕ) {b : Bool} → b ≡ has x s → Grew p q (lines s x)
-    → Grew q r (numeral s ++ cond b yesText noText) → Grew p r (lines (s + 1) x)
+    → Grew q r (numeral s ++ yesOrNo b) → Grew p r (lines (s + 1) x)
 unfolding lines
 one-state {p} {q} {r} s x e a h =
-    rw (add-one s) (subst (λ b. Grew p r (lines s x ++ (numeral s ++ cond b yesText noText))) e (laid-after a h))
+    rw (add-one s) (subst (λ b. Grew p r (lines s x ++ (numeral s ++ yesOrNo b))) e (laid-after a h))
 
 pub shows-as : {p : Page} {l m : List ℕ} → l ≡ m → Shows p l → Shows p m
 shows-as {p} e a = subst (Shows p) e a

@@ -1,17 +1,20 @@
 // Judges one case from standard input on all its states, and prints which of them hold, or the refusal.
-ghost use mathlib.Core.Bool.{true, cond};
+ghost use mathlib.Core.Bool.{true};
 ghost use mathlib.Core.List.{_++_};
 ghost use mathlib.Core.Path.{_≡_};
 ghost use Prim.Native.Nat.{_+_, _≤_, _<_};
 ghost use lib.ListN.{length};
 ghost use Rattle.flc.specs.Sets.{setOf, has};
 ghost use Rattle.case_model.specs.Limits.{mostStates};
-ghost use Rattle.case_model.specs.Replies.{Reply};
+ghost use Rattle.case_model.specs.Case.{read};
+ghost use Rattle.case_model.specs.Run.{everyStart};
 ghost use Rattle.case_file.specs.EnumNumbers.{number};
 ghost use Rattle.judge.specs.EnumNumbers.{answer};
-ghost use Rattle.judge_case.specs.Printed.{yesText, noText, numeral, line, printed, page, Shows, Grew, Blank};
+ghost use Rattle.judge_case.specs.Printed.{yesOrNo, numeral, line, verdictLines, refusalLine, page, Shows, Grew, Blank};
 use case_file::Case;
 use case_file::Refusal;
+use case_reader::start;
+use case_reader::start_count;
 use case_reader::state_count;
 use judge::Judged;
 use judge::Verdict;
@@ -29,10 +32,25 @@ fn all_states(n: usize) -> u16
 
 // Is state s in the set?
 fn holds(set: u16, s: usize) -> bool
-    requires { ⌜ s < 16 ⌝ }
     ensures { λ r. ⌜ r ≡ has set s ⌝ }
 {
-    (set >> s) % 2 == 1
+    if s < Case::STATES {
+        (set >> s) % 2 == 1
+    } else {
+        false
+    }
+}
+
+// Is every start state in the set?
+fn starts_hold(file: &[u8], set: u16) -> bool
+    ensures { λ r. ⌜ r ≡ everyStart (read (now (file .entry))) (has set) ⌝ }
+{
+    let count = start_count(file);
+    let mut all = true;
+    for i in 0..count {
+        all = all & holds(set, start(file, i));
+    }
+    all
 }
 
 // What is to be printed: the first `length` bytes.
@@ -85,22 +103,29 @@ impl Page {
         self.text(what).number(n).text(b"\n")
     }
 
+    // The end of a line that says whether something holds.
+    fn yes_or_no(self, holds: bool) -> Page
+        requires { ⌜ self .length + 5 ≤ 512 ⌝ }
+        ensures { λ r. ⌜ Grew self r (yesOrNo holds) ⌝ }
+    {
+        if holds {
+            self.text(b" yes\n")
+        } else {
+            self.text(b" no\n")
+        }
+    }
+
     // The line of state s.
     fn state(self, s: usize, holds: bool) -> Page
         requires { ⌜ self .length + 25 ≤ 512 ⌝ }
-        ensures { λ r. ⌜ Grew self r (numeral s ++ cond holds yesText noText) ⌝ }
+        ensures { λ r. ⌜ Grew self r (numeral s ++ yesOrNo holds) ⌝ }
     {
-        let next = self.number(s as u64);
-        if holds {
-            next.text(b" yes\n")
-        } else {
-            next.text(b" no\n")
-        }
+        self.number(s as u64).yes_or_no(holds)
     }
 }
 
 fn refusal_page(refusal: Refusal) -> Page
-    ensures { λ r. ⌜ Shows r (printed 0 (Reply.refuses (number (refusal .reason)) (refusal .place))) ⌝ }
+    ensures { λ r. ⌜ Shows r (refusalLine (number (refusal .reason)) (refusal .place)) ⌝ }
 {
     let number = refusal.number();
     Page::new()
@@ -109,9 +134,9 @@ fn refusal_page(refusal: Refusal) -> Page
         .line(b" ", refusal.place as u64)
 }
 
-fn verdict_page(states: usize, verdict: Verdict) -> Page
+fn verdict_page(states: usize, starts: bool, verdict: Verdict) -> Page
     requires { ⌜ states ≤ 16 ⌝ }
-    ensures { λ r. ⌜ Shows r (printed states (Reply.answers (answer verdict))) ⌝ }
+    ensures { λ r. ⌜ Shows r (verdictLines states starts (answer verdict)) ⌝ }
 {
     let mut page = Page::new()
         .line(b"states ", states as u64)
@@ -119,7 +144,7 @@ fn verdict_page(states: usize, verdict: Verdict) -> Page
     for s in 0..states {
         page = page.state(s, holds(verdict.set, s));
     }
-    page
+    page.text(b"starts").yes_or_no(starts)
 }
 
 // What is printed of a file, judged on all its states.
@@ -129,7 +154,7 @@ fn page_of(file: &[u8], work: &mut [u16]) -> Page
     let n = state_count(file);
     let judged = judge::judge(file, all_states(n), work);
     match judged {
-        Judged::Verdict(verdict) => verdict_page(n, verdict),
+        Judged::Verdict(verdict) => verdict_page(n, starts_hold(file, verdict.set), verdict),
         Judged::Refused(refusal) => refusal_page(refusal),
     }
 }

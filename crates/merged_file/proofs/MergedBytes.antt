@@ -1,4 +1,4 @@
--- The sections of the merged case are parts of the file and the steps of the rows, and the lengths add up to that of the new file.
+-- The sections of the merged case are parts of the file, the steps of the rows and the states of the set, and the lengths add up to that of the new file.
 -- Labels are a front and a back of the label section; the rule section is copied whole.
 use mathlib.Core.Bool.{true}
 use mathlib.Core.List.{List, [], _∷_, _++_}
@@ -21,6 +21,7 @@ use Rattle.case_model.proofs.Sections.{within, left-sound, right-sound, unless-
 use Rattle.case_model.proofs.Valid.{accepted-pairs, accepted-valid}
 use Rattle.case_model.specs.Valid.{Valid}
 use Rattle.case_model.proofs.Codec.{length-flat, length-write}
+use Rattle.case_model.proofs.Starts.{start-in}
 use Rattle.case_model.proofs.Laying.{laid-after, laid-as}
 use Rattle.case_reader.specs.StepRows.{relation, StepRows}
 use Rattle.case_writer.specs.Parts.{part}
@@ -28,6 +29,8 @@ use Rattle.case_writer.proofs.Parts.{part-more, part-triples}
 use Rattle.case_writer.proofs.Packing.{ended, next, laid-packed}
 use Rattle.merged_file.specs.Merged.{total, Named, Measured, mergedFile}
 use Rattle.merged_file.specs.declared.writing.Sizes.{Sizes}
+use Rattle.merged_starts.specs.StartSets.{startSet, Small, members}
+use Rattle.merged_starts.proofs.Members.{members-merged, members-few}
 use Rattle.merged_steps.specs.declared.rows.Pair.{Pair}
 use Rattle.merged_steps.proofs.Relations.{rows-order, carried-all, order-few}
 
@@ -95,7 +98,7 @@ module _ (f : List ℕ) (accepted : refusals standard f ≡ sound) where
       omega (arith, length-append (flat (read f .nodes)) (read f .root ∷ []), length-flat (read f .nodes), nodes-length f, rule-length f accepted)
 
 -- ---- the merged case
-module _ {f : List ℕ} {p : Pair} {rows : List ℕ} {z : Sizes} (m : Measured f p rows z) where
+module _ {f : List ℕ} {p : Pair} {rows : List ℕ} {set : ℕ} {z : Sizes} (m : Measured f p rows set z) where
   c : Case
   c = merge (read f) (p .kept) (p .removed)
 
@@ -113,26 +116,44 @@ module _ {f : List ℕ} {p : Pair} {rows : List ℕ} {z : Sizes} (m : Measured f
   step-bytes : length (flat (c .steps)) ≡ z .steps
   step-bytes = ap (λ l. length (flat l)) (sym steps) ∙ length-flat (inOrder 2048 (relation rows)) ∙ sym (m .steps)
 
+  starts : members set ≡ c .starts
+  unfolding c
+  starts = ap members (m .set-is) ∙ members-merged (read f) p
+
   pub total-is : total z ≡ length (mergedFile f p)
   unfolding c
   total-is =
       let e : length (c .nodes) ≡ length (read f .nodes) = unfold merge in refl in
-      omega (arith, length-write c, states, ap length steps, m .labels, m .steps, m .rule, nodes-length f, rule-length f (m .named .accepted))
+      omega (
+        arith,
+        length-write c,
+        states,
+        ap length steps,
+        ap length starts,
+        m .labels,
+        m .steps,
+        m .rule,
+        m .starts,
+        nodes-length f,
+        rule-length f (m .named .accepted),
+      )
 
   abbrev sizes : List ℕ
-  sizes = z .labels ∷ z .steps ∷ z .rule ∷ []
+  sizes = z .labels ∷ z .steps ∷ z .rule ∷ z .starts ∷ []
 
-  pub merged-laid : {w v1 v2 v3 v4 v5 : List ℕ} {a b d e g : ℕ} (n o q : ℕ) → n ≡ z .labels - p .removed → o ≡ offset f 0 → q ≡ offset f 2
+  pub merged-laid : {w v1 v2 v3 v4 v5 v6 : List ℕ} {a b d e g h : ℕ} (n o q : ℕ) → n ≡ z .labels - p .removed → o ≡ offset f 0 → q ≡ offset f 2
       → Laid w v1 0 a (pairs (4 * length sizes) sizes) → Laid v1 v2 a b (part f o (p .removed)) → Laid v2 v3 b d (part f (o + p .removed + 1) n)
-      → Laid v3 v4 d e (flat (inOrder 2048 (relation rows))) → Laid v4 v5 e g (part f q (z .rule)) → Laid w v5 0 g (mergedFile f p)
+      → Laid v3 v4 d e (flat (inOrder 2048 (relation rows))) → Laid v4 v5 e g (part f q (z .rule))
+      → Laid v5 v6 g h (members set) → Laid w v6 0 h (mergedFile f p)
   unfolding c write merge
-  merged-laid n o q i j k h1 h2 h3 h4 h5 =
+  merged-laid n o q i j k h1 h2 h3 h4 h5 h6 =
       let len : n ≡ length (read f .labels) - suc (p .removed) = omega (arith, m .labels) in
       let labels = (λ y. part f (j y) (p .removed) ++ part f (j y + p .removed + 1) (len y)) ∙ labels-are f (p .removed) (m .named .removed) in
       let rule = ap₂ (part f) k (m .rule) ∙ rule-is f (m .named .accepted) in
       laid-packed sizes h1 (next (m .labels ∙ sym states) (laid-as labels (laid-after h2 h3))
       (next (sym step-bytes) (laid-as (ap flat steps) h4)
-      (next (m .rule ∙ sym (rule-size f (m .named .accepted))) (laid-as rule h5) ended)))
+      (next (m .rule ∙ sym (rule-size f (m .named .accepted))) (laid-as rule h5)
+      (next (m .starts ∙ ap length starts) (laid-as starts h6) ended))))
 
   -- each part lies within the file, and the sizes are small
   pub record Within : Type 0 where
@@ -141,6 +162,7 @@ module _ {f : List ℕ} {p : Pair} {rows : List ℕ} {z : Sizes} (m : Measured f
     pub few : length (read f .labels) ≤ 16
     pub steps-few : length (inOrder 2048 (relation rows)) ≤ 2048
     pub rule-few : size f 2 ≤ 193
+    pub starts-few : length (members set) ≤ 16
 
   pub fits : Within
   fits =
@@ -151,19 +173,29 @@ module _ {f : List ℕ} {p : Pair} {rows : List ℕ} {z : Sizes} (m : Measured f
         few = valid .table .few;
         steps-few = order-few (relation rows) 2048;
         rule-few = omega (arith, valid .rule .most, nodes-length f, rule-length f (m .named .accepted));
+        starts-few = members-few set;
       }
 
 -- from what is known before anything is measured
-pub named-valid : {f : List ℕ} {p : Pair} {n : ℕ} → Named f p n → Valid standard (read f)
+named-valid : {f : List ℕ} {p : Pair} {n : ℕ} → Named f p n → Valid standard (read f)
 named-valid {f} h = accepted-valid standard f (h .accepted)
 
-pub measured : {f : List ℕ} {p : Pair} {n : ℕ} {rows merged : List ℕ} (z : Sizes) → Named f p n → StepRows (read f .steps) rows
+-- its states have a place in a set
+pub starts-small : {f : List ℕ} {p : Pair} {n : ℕ} → Named f p n → Small (read f) p
+starts-small h =
+    let v = named-valid h in
+    record { kept = omega (arith, h .kept, h .states, v .table .few); starts = λ i l. omega (arith, start-in v i l, v .table .few) }
+
+pub measured : {f : List ℕ} {p : Pair} {n set : ℕ} {rows merged : List ℕ} (z : Sizes) → Named f p n → StepRows (read f .steps) rows
     → StepRows (movedSteps (p .kept) (p .removed) (inOrder 2048 (relation rows))) merged → z .labels ≡ p .removed + (n - suc (p .removed))
-    → z .steps ≡ 3 * length (inOrder 2048 (relation merged)) → z .rule ≡ size f 2 → Measured f p merged z
-measured {f} {p} z h R m i j k = record {
+    → z .steps ≡ 3 * length (inOrder 2048 (relation merged)) → z .rule ≡ size f 2 → set ≡ startSet (read f) p
+    → z .starts ≡ length (members set) → Measured f p merged set z
+measured {f} {p} z h R m i j k e l = record {
   named = record { accepted = h .accepted; states = refl; kept = omega (arith, h .states); removed = omega (arith, h .states) };
   marks = carried-all (named-valid h .table) (p .kept) (p .removed) R m;
   labels = omega (arith, h .states);
   steps = j;
+  set-is = e;
   rule = k;
+  starts = l;
 }

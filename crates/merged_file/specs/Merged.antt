@@ -11,10 +11,11 @@ use Rattle.case_model.specs.Replies.{Reply, replied, row13}
 use Rattle.case_model.specs.Merging.{movedSteps, inOrder, merge}
 use Rattle.case_reader.specs.StepRows.{relation, StepRows}
 use Rattle.merged_file.specs.declared.writing.Sizes.{Sizes}
+use Rattle.merged_starts.specs.StartSets.{startSet, members}
 use Rattle.merged_steps.specs.declared.rows.Pair.{Pair}
 
 abbrev pub total : Sizes → ℕ
-total z = 4 * sections + z .labels + z .steps + z .rule
+total z = 4 * sections + z .labels + z .steps + z .rule + z .starts
 
 -- an accepted file of n states, of which one is kept and one removed; n removes none
 pub record Named (f : List ℕ) (p : Pair) (n : ℕ) : Type 0 where
@@ -23,13 +24,15 @@ pub record Named (f : List ℕ) (p : Pair) (n : ℕ) : Type 0 where
   pub kept : p .kept < n
   pub removed : p .removed ≤ n
 
--- the merged case has the steps of the rows, and sections of such lengths
-pub record Measured (f : List ℕ) (p : Pair) (rows : List ℕ) (z : Sizes) : Type 0 where
+-- the merged case has the steps of the rows and the start states of the set, and sections of such lengths
+pub record Measured (f : List ℕ) (p : Pair) (rows : List ℕ) (set : ℕ) (z : Sizes) : Type 0 where
   pub named : Named f p (length (read f .labels))
   pub marks : StepRows (movedSteps (p .kept) (p .removed) (read f .steps)) rows
+  pub set-is : set ≡ startSet (read f) p
   pub labels : z .labels ≡ p .removed + (length (read f .labels) - suc (p .removed))
   pub steps : z .steps ≡ 3 * length (inOrder 2048 (relation rows))
   pub rule : z .rule ≡ size f 2
+  pub starts : z .starts ≡ length (members set)
 
 -- the new file
 abbrev pub mergedFile : List ℕ → Pair → List ℕ

@@ -1,4 +1,4 @@
-// The file of the merged case: the labels without the removed one, the steps of the rows, the rule as it was.
+// The file of the merged case: the labels without the removed one, the steps of the rows, the rule as it was, the start states of the set.
 ghost use mathlib.Core.Path.{_≡_};
 ghost use Prim.Native.Nat.{suc, _+_, _-_, _≤_};
 ghost use lib.ListN.{length};
@@ -15,6 +15,8 @@ use case_reader::section_size;
 use case_reader::step_rows;
 use case_writer::put_pairs;
 use case_writer::put_part;
+use merged_starts::merged_starts;
+use merged_starts::put_starts;
 use merged_steps::Pair;
 use merged_steps::count;
 use merged_steps::merged_rows;
@@ -25,23 +27,32 @@ struct Sizes {
     labels: usize,
     steps: usize,
     rule: usize,
+    starts: usize,
 }
 
-// The head, the labels without the removed one, the steps and the rule.
-fn put_merged(file: &[u8], pair: Pair, rows: [u16; 128], sizes: Sizes, out: &mut [u8]) -> usize
-    requires { ⌜ Measured (now file) pair rows sizes × (total sizes ≤ length (now out)) ⌝ }
+// The head, the labels without the removed one, the steps, the rule and the start states.
+fn put_merged(
+    file: &[u8],
+    pair: Pair,
+    rows: [u16; 128],
+    starts: u16,
+    sizes: Sizes,
+    out: &mut [u8],
+) -> usize
+    requires { ⌜ Measured (now file) pair rows starts sizes × (total sizes ≤ length (now out)) ⌝ }
     ensures { λ r. ⌜ Laid (now (out .entry)) (now (out .exit)) 0 r (mergedFile (now (file .entry)) pair) ⌝ }
 {
     let labels = section_offset(file, 0);
     let rule = section_offset(file, 2);
     let below = pair.removed;
     let above = sizes.labels - below;
-    let lengths = [sizes.labels, sizes.steps, sizes.rule];
+    let lengths = [sizes.labels, sizes.steps, sizes.rule, sizes.starts];
     let first = put_pairs(&lengths, out);
     let second = put_part(file, labels, below, out, first);
     let third = put_part(file, labels + below + 1, above, out, second);
     let fourth = put_steps(rows, out, third);
-    put_part(file, rule, sizes.rule, out, fourth)
+    let fifth = put_part(file, rule, sizes.rule, out, fourth);
+    put_starts(starts, out, fifth)
 }
 
 // How many of n labels are left: those below and those above the removed one. Where that is n, all are.
@@ -60,10 +71,12 @@ pub fn merge_pair(file: &[u8], pair: Pair, n: usize, out: &mut [u8]) -> Written
 {
     let before = step_rows(file, false);
     let rows = merged_rows(before, pair);
+    let set = merged_starts(file, pair);
     let labels = labels_left(n, pair.removed);
     let steps = 3 * count(rows);
     let rule = section_size(file, 2);
-    let all = 4 * Case::SECTIONS + labels + steps + rule;
+    let starts = merged_starts::count(set);
+    let all = 4 * Case::SECTIONS + labels + steps + rule + starts;
     if out.len() < all {
         return refused(Reason::Room);
     }
@@ -71,7 +84,8 @@ pub fn merge_pair(file: &[u8], pair: Pair, n: usize, out: &mut [u8]) -> Written
         labels,
         steps,
         rule,
+        starts,
     };
-    put_merged(file, pair, rows, sizes, out);
+    put_merged(file, pair, rows, set, sizes, out);
     Written::Bytes(all)
 }

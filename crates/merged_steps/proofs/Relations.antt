@@ -2,32 +2,33 @@
 -- Whether a moved step is listed depends on which steps are listed, and not on their order; so a turn may put its step in front or behind.
 use mathlib.Core.Bool.{Bool, true, false, cond}
 use mathlib.Core.List.{List, [], _∷_, _++_, append-nil}
-use mathlib.Core.Path.{_≡_, refl, sym, ap, ap₂, _∙_, subst}
-use Prim.Native.Nat.{ℕ, zero, suc, _+_, _*_, _/_, _%_, _≤_, _<_}
-use native.Mathlib.Decide.{ℕ-discrete, le-ind}
+use mathlib.Core.Path.{_≡_, refl, sym, ap, _∙_, subst}
+use Prim.Native.Nat.{ℕ, _+_, _*_, _/_, _%_, _≤_, _<_}
+use native.Mathlib.Decide.{ℕ-discrete}
 use native.Mathlib.Numerals.{add-one}
 use native.Mathlib.Omega.{arith}
 use borrow.Author.Tests.{eq-eqb, ne-eqb}
 use mir.Val.{boolByte}
 use lib.Dec.{T}
-use lib.ListN.{length, replicate, length-append}
-use Rattle.flc.specs.Sets.{either}
+use lib.ListN.{length, getD, replicate}
+use Rattle.flc.specs.Sets.{either, has}
 use Rattle.flc.proofs.Tests.{bool-ext}
 use Rattle.case_model.specs.Areas.{Laid}
 use Rattle.case_model.specs.Limits.{mostStates}
 use Rattle.case_model.specs.Case.{Case, flat, listed}
 use Rattle.case_model.specs.Kinds.{Triple}
-use Rattle.case_model.specs.Merging.{moved, movedSteps, inOrder}
+use Rattle.case_model.specs.Merging.{moved, movedSteps, numbered, selected, inOrder}
 use Rattle.case_model.specs.Valid.{ValidTable}
 use Rattle.case_model.proofs.Codec.{length-flat}
 use Rattle.case_model.proofs.Laying.{laid-after}
+use Rattle.case_model.proofs.Selected.{selected-ext, selected-more, selected-counted, selected-few, selected-room}
 use Rattle.case_model.proofs.Steps.{listed-in}
 use Rattle.case_model.proofs.StepOrder.{listed-inOrder}
 use Rattle.case_model.proofs.MovedStates.{movedSteps-use, movedSteps-mk}
 use Rattle.case_reader.specs.StepRows.{relation, StepRows}
 use Rattle.case_reader.proofs.Marking.{marks-none, marks-more}
 use Rattle.case_writer.proofs.Parts.{flat-append}
-use Rattle.merged_steps.specs.Relation.{numbered, chosen, carried}
+use Rattle.merged_steps.specs.Relation.{chosen, carried}
 
 -- ---- lists of the same steps
 abbrev Same : List Triple → List Triple → Type 0
@@ -59,7 +60,7 @@ module _ (k r : ℕ) where
 
   -- ---- the steps of the merged case, carried over one by one
   pub carried-none : (step : ℕ → ℕ → ℕ → Bool) → StepRows (movedSteps k r (inOrder 0 step)) (replicate 128 0)
-  unfolding movedSteps inOrder
+  unfolding movedSteps inOrder selected
   carried-none step = marks-none false []
 
   carried-more : (is : Bool) (y : Triple) (l : List Triple) {rows : List ℕ} → StepRows (movedSteps k r l) rows
@@ -74,18 +75,13 @@ module _ (k r : ℕ) where
   -- one turn
   pub carried-turn : (step : ℕ → ℕ → ℕ → Bool) (x : ℕ) (is : Bool) {rows next : List ℕ} → StepRows (movedSteps k r (inOrder x step)) rows
       → is ≡ step (x / 128) (x / 16 % 8) (x % 16) → next ≡ carried k r is (numbered x) rows → StepRows (movedSteps k r (inOrder (x + 1) step)) next
-  unfolding inOrder
+  unfolding inOrder selected
   carried-turn step x is R e q = rw (add-one x, q, ← e) (carried-more is (numbered x) (inOrder x step) R)
 
 -- ---- the steps in order
-inOrder-ext : (x : ℕ) (g h : ℕ → ℕ → ℕ → Bool) → x ≤ 2048 → ((s a t : ℕ) → s < 16 → a < 8 → t < 16 → g s a t ≡ h s a t) → inOrder x g ≡ inOrder x h
-unfolding inOrder
-inOrder-ext zero g h few e = refl
-inOrder-ext (suc x) g h few e =
-    ap₂ (λ l b. l ++ chosen b x) (inOrder-ext x g h (omega arith) e) (e (x / 128) (x / 16 % 8) (x % 16) (omega arith) (omega arith) (omega arith))
-
 pub rows-order : {l : List Triple} {rows : List ℕ} → StepRows l rows → inOrder 2048 (relation rows) ≡ inOrder 2048 (listed l)
-rows-order {l} {rows} R = inOrder-ext 2048 (relation rows) (listed l) (omega arith) (R .is)
+unfolding inOrder
+rows-order {l} {rows} R = selected-ext 2048 _ _ numbered (λ x h. R .is (x / 128) (x / 16 % 8) (x % 16) (omega arith) (omega arith) (omega arith))
 
 -- what is carried over from the rows of a valid case's steps is what is moved of the steps
 pub carried-all : {c : Case} → ValidTable mostStates c → (k r : ℕ) {rows next : List ℕ} → StepRows (c .steps) rows
@@ -94,52 +90,46 @@ carried-all {c} valid k r {rows} R = steps-same (moved-same k r (inOrder 2048 (r
     ap (λ l. listed l s a t) (rows-order R)
     ∙ listed-inOrder (listed (c .steps)) (length (c .labels)) (valid .few) (listed-in valid) s a t))
 
-module _ (step : ℕ → ℕ → ℕ → Bool) where
-  abbrev here : ℕ → List Triple
-  here x = chosen (step (x / 128) (x / 16 % 8) (x % 16)) x
+-- the triple numbered x is a step
+abbrev isStep : (ℕ → ℕ → ℕ → Bool) → ℕ → Bool
+isStep step x = step (x / 128) (x / 16 % 8) (x % 16)
 
-  order-more : (x : ℕ) → inOrder (x + 1) step ≡ inOrder x step ++ here x
-  unfolding inOrder
-  order-more x = rw add-one
+-- the row of the triple numbered x is x / 16
+pub told : (rows : List ℕ) (x : ℕ) {b : Bool} → b ≡ has (getD rows (x / 16) 0) (x % 16) → b ≡ isStep (relation rows) x
+unfolding relation
+told rows x e =
+    let q : x / 16 ≡ 8 * (x / 128) + x / 16 % 8 = omega arith in
+    e ∙ ap (λ i. has (getD rows i 0) (x % 16)) q
 
-  order-longer : (x : ℕ) → length (inOrder (x + 1) step) ≡ length (inOrder x step) + length (here x)
-  order-longer x = ap length (order-more x) ∙ length-append (inOrder x step) (here x)
+pub order-few : (step : ℕ → ℕ → ℕ → Bool) (x : ℕ) → length (inOrder x step) ≤ x
+unfolding inOrder
+order-few step = selected-few (isStep step) numbered
 
-  here-few : (b : Bool) (x : ℕ) → length (chosen b x) ≤ 1
-  here-few true x = omega arith
-  here-few false x = omega arith
+-- one turn of counting
+pub counted : (step : ℕ → ℕ → ℕ → Bool) (x n : ℕ) (b : Bool) → n ≡ length (inOrder x step) → b ≡ isStep step x → n + boolByte b ≡ length (inOrder (x + 1) step)
+unfolding inOrder
+counted step = selected-counted (isStep step) numbered
 
-  pub order-few : (x : ℕ) → length (inOrder x step) ≤ x
-  unfolding inOrder
-  order-few zero = omega arith
-  order-few (suc x) = omega (arith, order-few x, length-append (inOrder x step) (here x), here-few (step (x / 128) (x / 16 % 8) (x % 16)) x)
-
-  byte-few : (b : Bool) (x : ℕ) → boolByte b ≡ length (chosen b x)
-  byte-few true x = refl
-  byte-few false x = refl
-
-  -- one turn of counting
-  pub counted : (x n : ℕ) (b : Bool) → n ≡ length (inOrder x step) → b ≡ step (x / 128) (x / 16 % 8) (x % 16) → n + boolByte b ≡ length (inOrder (x + 1) step)
-  counted x n b p q = rw (order-longer x, p, byte-few b x, q)
-
-  -- there is room for the triple x in the room of all below y
-  order-room : (x y : ℕ) → x < y → length (inOrder x step) + length (here x) ≤ length (inOrder y step)
-  unfolding inOrder
-  order-room x y h = le-ind (λ m. length (inOrder x step) + length (here x) ≤ length (inOrder m step))
-      (omega (arith, length-append (inOrder x step) (here x)))
-      (λ m k e. omega (arith, length-append (inOrder m step) (here m))) y h
+pub counted-few : (step : ℕ → ℕ → ℕ → Bool) (x n : ℕ) (b : Bool) → n ≡ length (inOrder x step) → b ≡ isStep step x → n + boolByte b ≤ x + 1
+counted-few step x n b p q = rw (counted step x n b p q) (order-few step (x + 1))
 
 -- ---- one turn of writing, for which there is room
 pub laid-turn : (step : ℕ → ℕ → ℕ → Bool) (x : ℕ) (b : Bool) {w v u : List ℕ} {base mid end : ℕ} → Laid w v base mid (flat (inOrder x step))
     → b ≡ step (x / 128) (x / 16 % 8) (x % 16) → Laid v u mid end (flat (chosen b x)) → Laid w u base end (flat (inOrder (x + 1) step))
+unfolding inOrder
 laid-turn step x b {v = v} {u} {mid = mid} {end} p q e =
-    rw (order-more step x, flat-append (inOrder x step)) (laid-after p (subst (λ z. Laid v u mid end (flat (chosen z x))) q e))
+    rw (selected-more (isStep step) numbered x, flat-append (inOrder x step)) (laid-after p (subst (λ z. Laid v u mid end (flat (chosen z x))) q e))
 
 pub turn-room : (step : ℕ → ℕ → ℕ → Bool) (x : ℕ) (b : Bool) {w v : List ℕ} {base mid : ℕ} → x < 2048 → base + 3 * length (inOrder 2048 step) ≤ length w
     → Laid w v base mid (flat (inOrder x step)) → b ≡ step (x / 128) (x / 16 % 8) (x % 16) → mid + 3 * length (chosen b x) ≤ length v
+unfolding inOrder
 turn-room step x b h room p q =
     let e : length (chosen b x) ≡ length (chosen (step (x / 128) (x / 16 % 8) (x % 16)) x) = ap (λ z. length (chosen z x)) q in
-    omega (arith, order-room step x 2048 h, length-flat (inOrder x step))
+    omega (arith, selected-room (isStep step) numbered x 2048 h, length-flat (inOrder x step))
+
+-- where the steps end
+pub laid-ends : (step : ℕ → ℕ → ℕ → Bool) {w v : List ℕ} {base end : ℕ} → Laid w v base end (flat (inOrder 2048 step)) → end ≡ base + 3 * length (inOrder 2048 step)
+laid-ends step p = omega (arith, p .ends, length-flat (inOrder 2048 step))
 
 -- room for a step
 pub room : (b : Bool) (x at : ℕ) {n : ℕ} → b ≡ true → at + 3 * length (chosen b x) ≤ n → at + 3 ≤ n

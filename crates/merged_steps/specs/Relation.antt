@@ -1,17 +1,13 @@
 -- The triples by number, and what one of them adds to a list of steps, or to the rows of the merged case.
-use Prim.Native.Nat.{ℕ, _/_, _%_}
+use Prim.Native.Nat.{ℕ}
 use mathlib.Core.Bool.{Bool, _&&_, not, cond}
 use mathlib.Core.List.{List, [], _∷_}
 use lib.Dec.{eqb}
 use Rattle.case_model.specs.Kinds.{Triple}
-use Rattle.case_model.specs.Merging.{moved}
+use Rattle.case_model.specs.Merging.{moved, numbered}
 use Rattle.case_reader.specs.StepRows.{marked}
 
--- the triple that has the number x
-abbrev pub numbered : ℕ → Triple
-numbered x = (x / 128, x / 16 % 8, x % 16)
-
--- that triple, if it is a step
+-- the triple that has the number x, if it is a step
 abbrev pub chosen : Bool → ℕ → List Triple
 chosen is x = cond is (numbered x ∷ []) []
 

@@ -4,9 +4,9 @@ ghost use Prim.Native.Nat.{_+_, _*_, _/_, _%_, _≤_, _<_, min, max};
 ghost use lib.ListN.{length};
 ghost use Rattle.case_model.specs.Areas.{Laid};
 ghost use Rattle.case_model.specs.Case.{flat};
-ghost use Rattle.case_model.specs.Merging.{moved, movedSteps, inOrder};
+ghost use Rattle.case_model.specs.Merging.{moved, movedSteps, numbered, inOrder};
 ghost use Rattle.case_reader.specs.StepRows.{relation, StepRows};
-ghost use Rattle.merged_steps.specs.Relation.{numbered, chosen, carried};
+ghost use Rattle.merged_steps.specs.Relation.{chosen, carried};
 use bisimilarity::member;
 use case_reader::Triple;
 use case_reader::mark;
@@ -36,7 +36,7 @@ impl Pair {
     }
 
     // The number of the state that stands for s.
-    fn moved(self, s: usize) -> usize
+    pub fn moved(self, s: usize) -> usize
         ensures { λ r. ⌜ r ≡ moved (self .kept) (self .removed) s ⌝ }
     {
         if s == self.removed {
@@ -51,14 +51,6 @@ fn numbered(x: usize) -> Triple
     ensures { λ r. ⌜ (r .0 ≡ x / 128) × (r .1 ≡ x / 16 % 8) × (r .2 ≡ x % 16) ⌝ }
 {
     Triple(x / 128, x / 16 % 8, x % 16)
-}
-
-// Is it a step?
-fn is_step(rows: [u16; 128], x: usize) -> bool
-    requires { ⌜ x < 2048 ⌝ }
-    ensures { λ r. ⌜ r ≡ relation rows (x / 128) (x / 16 % 8) (x % 16) ⌝ }
-{
-    member(rows[x / 16], x % 16)
 }
 
 // Marks the triple with the number x, renumbered, if it is a step and does not leave the removed state.
@@ -79,7 +71,8 @@ pub fn merged_rows(rows: [u16; 128], pair: Pair) -> [u16; 128]
 {
     let mut merged = [0u16; 128];
     for x in 0..2048 {
-        let next = carry(is_step(rows, x), x, pair, merged);
+        let is = member(rows[x / 16], x % 16);
+        let next = carry(is, x, pair, merged);
         merged = next;
     }
     merged
@@ -91,7 +84,7 @@ pub fn count(rows: [u16; 128]) -> usize
 {
     let mut all = 0;
     for x in 0..2048 {
-        all += is_step(rows, x) as usize;
+        all += member(rows[x / 16], x % 16) as usize;
     }
     all
 }
@@ -116,7 +109,8 @@ pub fn put_steps(rows: [u16; 128], out: &mut [u8], base: usize) -> usize
 {
     let mut at = base;
     for x in 0..2048 {
-        at = put_step(is_step(rows, x), x, out, at);
+        let step = member(rows[x / 16], x % 16);
+        at = put_step(step, x, out, at);
     }
     at
 }

@@ -1,5 +1,5 @@
 -- The new file, part by part: how long it is, what its parts are, and that they lie there once they are laid one after the other.
--- The labels and the steps are sections of the old file; the steps are whole triples, because no refusal was found.
+-- Labels, steps and start states are sections of the old file; the steps are whole triples, because no refusal was found.
 use Prim.Native.Nat.{ℕ, _+_, _*_, _/_, _%_, _≤_, _<_}
 use mathlib.Core.List.{List, [], _∷_}
 use mathlib.Core.Path.{_≡_, refl, sym, ap, _∙_}
@@ -19,6 +19,7 @@ use Rattle.case_model.proofs.Lists.{length-listOf, listOf-getD}
 use Rattle.case_model.proofs.Sections.{within, left-sound, right-sound, unless-sound}
 use Rattle.case_model.proofs.Valid.{accepted-pairs}
 use Rattle.case_model.proofs.Codec.{length-flat, length-write}
+use Rattle.case_model.proofs.Starts.{starts-few}
 use Rattle.case_model.proofs.Steps.{steps-few}
 use Rattle.case_writer.specs.Parts.{part}
 use Rattle.case_writer.proofs.Parts.{length-part, part-triples, laid-triple}
@@ -82,27 +83,28 @@ module _ {f : List ℕ} {p : Plan} (h : Planned f p) where
   pub section-within : (k : ℕ) → k < sections → offset f k + size f k ≤ length f
   section-within = within standard f (accepted-pairs standard f (h .accepted))
 
-  pub new-length : length (write (renewed f p)) ≡ 4 * sections + size f 0 + size f 1 + 3 * p .nodes + 1
+  pub new-length : length (write (renewed f p)) ≡ 4 * sections + size f 0 + size f 1 + 3 * p .nodes + 1 + size f 3
   unfolding rewrite
   new-length =
       let s : length (triples f 1) ≡ size f 1 / 3 = length-listOf (size f 1 / 3) _ in
-      omega (arith, length-write (renewed f p), section-length f 0, steps-whole f (h .accepted), h .nodes)
+      omega (arith, length-write (renewed f p), section-length f 0, section-length f 3, steps-whole f (h .accepted), h .nodes)
 
   -- so its pairs are numbers of two bytes
   pub new-short : length (write (renewed f p)) < 65536
-  new-short = omega (arith, length-write (renewed f p), steps-few (valid h .table), valid h .table .few, valid h .rule .most)
+  new-short = omega (arith, length-write (renewed f p), steps-few (valid h .table), starts-few (valid h), valid h .table .few, valid h .rule .most)
 
-  rule-length : 3 * p .nodes + 1 ≡ length (ruleBytes (renewed f p))
+  pub rule-length : 3 * p .nodes + 1 ≡ length (ruleBytes (renewed f p))
   rule-length = simp (length-append, length-flat) (omega (arith, h .nodes))
 
-  -- its head, the two sections that stay and the rule, laid one after the other
-  pub laid-new : {n₀ n₁ : ℕ} → n₀ ≡ size f 0 → n₁ ≡ size f 1 → {w a b c u : List ℕ} {at₀ at₁ at₂ end : ℕ}
-      → Laid w a 0 at₀ (pairs (4 * sections) (n₀ ∷ n₁ ∷ (3 * p .nodes + 1) ∷ [])) → Laid a b at₀ at₁ (section f 0) → Laid b c at₁ at₂ (section f 1)
-      → Laid c u at₂ end (ruleBytes (renewed f p)) → Laid w u 0 end (write (renewed f p))
+  -- its head, two sections that stay, the rule and the section behind it, laid one after the other
+  pub laid-new : {n₀ n₁ n₃ : ℕ} → n₀ ≡ size f 0 → n₁ ≡ size f 1 → n₃ ≡ size f 3 → {w a b c d u : List ℕ} {at₀ at₁ at₂ at₃ end : ℕ}
+      → Laid w a 0 at₀ (pairs (4 * sections) (n₀ ∷ n₁ ∷ (3 * p .nodes + 1) ∷ n₃ ∷ [])) → Laid a b at₀ at₁ (section f 0) → Laid b c at₁ at₂ (section f 1)
+      → Laid c d at₂ at₃ (ruleBytes (renewed f p)) → Laid d u at₃ end (section f 3) → Laid w u 0 end (write (renewed f p))
   unfolding write rewrite
-  laid-new {n₀} {n₁} q₀ q₁ head labels steps rule =
+  laid-new {n₀} {n₁} {n₃} q₀ q₁ q₃ head labels steps rule starts =
       let s : section f 1 ≡ flat (triples f 1) = steps-bytes f (h .accepted) in
-      laid-packed (n₀ ∷ n₁ ∷ (3 * p .nodes + 1) ∷ []) head
+      laid-packed (n₀ ∷ n₁ ∷ (3 * p .nodes + 1) ∷ n₃ ∷ []) head
       (next (q₀ ∙ sym (section-length f 0)) labels
       (next (q₁ ∙ sym (section-length f 1) ∙ ap length s) (laid-as s steps)
-      (next rule-length rule ended)))
+      (next rule-length rule
+      (next (q₃ ∙ sym (section-length f 3)) starts ended))))

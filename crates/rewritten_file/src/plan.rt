@@ -1,4 +1,4 @@
-// The file that a rewriting makes: the labels and the steps as they were, then the new nodes and the root.
+// The file that a rewriting makes: the labels and the steps as they were, the new nodes and the root, the start states as they were.
 ghost use mathlib.Core.Path.{_≡_};
 ghost use Prim.Native.Nat.{_+_, _*_, _≤_, _<_};
 ghost use lib.ListN.{length};
@@ -99,7 +99,8 @@ pub fn new_size(file: &[u8], plan: Plan) -> usize
 {
     let labels = section_size(file, 0);
     let steps = section_size(file, 1);
-    4 * SECTIONS + labels + steps + 3 * plan.nodes + 1
+    let starts = section_size(file, 3);
+    4 * SECTIONS + labels + steps + 3 * plan.nodes + 1 + starts
 }
 
 // Writes the new nodes.
@@ -143,9 +144,11 @@ pub fn write_new(file: &[u8], plan: Plan, out: &mut [u8]) -> usize
         section_size(file, 0),
         section_size(file, 1),
         3 * plan.nodes + 1,
+        section_size(file, 3),
     ];
     let labels = put_pairs(&sizes, out);
     let steps = put_section(file, 0, out, labels);
     let rule = put_section(file, 1, out, steps);
-    put_rule(file, plan, out, rule)
+    let starts = put_rule(file, plan, out, rule);
+    put_section(file, 3, out, starts)
 }

@@ -26,6 +26,7 @@ pub fn modalities(states: usize, modality: impl Fn(u8) -> Triple) -> Case {
         steps: steps.collect(),
         nodes: vec![],
         root: 0,
+        starts: vec![],
     };
     with_rule(case, nodes)
 }
@@ -83,7 +84,7 @@ pub fn full_wheels() -> Case {
     case
 }
 
-/// The longest file: every step that there can be, 16 alike states, 64 nodes.
+/// The longest file: every step that there can be, 16 alike states, all of them start states, 64 nodes.
 pub fn longest() -> Case {
     let steps = (0..2048).map(|i| ((i / 128) as u8, (i / 16 % 8) as u8, (i % 16) as u8));
     let mut nodes = chain((6, 0, 0), 10, 63);
@@ -93,6 +94,7 @@ pub fn longest() -> Case {
         steps: steps.collect(),
         nodes: vec![],
         root: 0,
+        starts: (0..16).collect(),
     };
     with_rule(case, nodes)
 }
@@ -119,6 +121,7 @@ fn ring(states: usize) -> Case {
         steps: (0..states).map(|s| (s as u8, 0, next(s))).collect(),
         nodes: vec![],
         root: 0,
+        starts: vec![],
     }
 }
 
@@ -140,7 +143,7 @@ mod tests {
             let file = plain::write(case);
             (file.len(), plain::vet(&file, 0))
         };
-        assert_eq!(sizes(&longest()), (6365, Ok((16, 64))));
+        assert_eq!(sizes(&longest()), (6385, Ok((16, 64))));
         assert_eq!(sizes(&full_wheels()).1, Ok((16, 64)));
         assert_eq!(sizes(&modalities(16, |i| (6, i % 8, 0))).1, Ok((16, 64)));
         assert_eq!(sizes(&chops(12, 6)).1, Ok((12, 6)));

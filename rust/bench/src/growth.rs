@@ -114,7 +114,7 @@ fn with_nesting(
 
 fn longest_file(table: &mut Table) -> io::Result<()> {
     let case = cases::longest();
-    let mut out = [0; 6365];
+    let mut out = [0; hoidrul::LONGEST];
     called(table, "longest file: vet", &case, |file| {
         black_box(hoidrul::vet(file, 2)).expect("a case");
     })?;

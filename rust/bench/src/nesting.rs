@@ -60,6 +60,7 @@ pub fn case(rings: &[usize], levels: usize, binders: Binders) -> Case {
         steps: steps(rings, states),
         root: nodes.len() as u8 - 1,
         nodes,
+        starts: vec![],
     }
 }
 

@@ -3,6 +3,8 @@ mod nodes;
 mod pairs;
 mod sections;
 
+pub use pairs::without_starts;
+
 use crate::generate::case_where;
 use crate::rng::Rng;
 use plain::{Case, Refusal};
@@ -15,13 +17,15 @@ pub struct Damaged {
 
 pub type Damage = fn(&mut Rng) -> Damaged;
 
-pub const DAMAGES: [(&str, Damage); 20] = [
+pub const DAMAGES: [(&str, Damage); 25] = [
     ("cut", pairs::cut),
     ("lengthened", pairs::lengthened),
     ("too long", pairs::too_long),
     ("pair nudged", pairs::nudged),
     ("pairs swapped", pairs::swapped),
     ("pairs right modulo 65,536", pairs::wrapped),
+    ("three pairs", pairs::three),
+    ("start states cut", pairs::starts_cut),
     ("label count", sections::label_count),
     ("step section length", sections::step_length),
     ("step range", sections::step_range),
@@ -30,6 +34,9 @@ pub const DAMAGES: [(&str, Damage); 20] = [
     ("rule length", sections::rule_length),
     ("node count", sections::node_count),
     ("root", sections::root),
+    ("start state range", sections::start_range),
+    ("start state order", sections::start_order),
+    ("start state repeated", sections::start_repeated),
     ("kind", nodes::kind),
     ("unused byte", nodes::unused_byte),
     ("node range", nodes::range),

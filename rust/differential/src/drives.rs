@@ -150,19 +150,29 @@ fn one_state(nodes: &[Triple]) -> Case {
     case(&[0], &[], nodes)
 }
 
-/// The longest case: 16 states, every step that there can be, 64 nodes.
+/// The longest case: 16 states, every step that there can be, 64 nodes, every state a start state.
 pub fn longest() -> Case {
     let step = |i: usize| ((i / 128) as u8, (i / 16 % 8) as u8, (i % 16) as u8);
     let steps: Vec<Triple> = (0..2048).map(step).collect();
-    case(&[255; 16], &steps, &[(0, 0, 0); 64])
+    let case = case(&[255; 16], &steps, &[(0, 0, 0); 64]);
+    starting_in(&Vec::from_iter(0..16), case)
 }
 
-/// A case whose root is its last node.
+/// The case with these start states.
+pub fn starting_in(starts: &[u8], case: Case) -> Case {
+    Case {
+        starts: starts.to_vec(),
+        ..case
+    }
+}
+
+/// A case whose root is its last node, without start states.
 pub fn case(labels: &[u8], steps: &[Triple], nodes: &[Triple]) -> Case {
     Case {
         labels: labels.to_vec(),
         steps: steps.to_vec(),
         nodes: nodes.to_vec(),
         root: nodes.len() as u8 - 1,
+        starts: vec![],
     }
 }

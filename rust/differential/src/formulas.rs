@@ -2,6 +2,7 @@
 //! Nodes are shared, and some that the root does not reach stand between the others.
 use crate::groups;
 use crate::rng::Rng;
+use crate::starts::starts;
 use plain::kinds::{
     AND, BOX, CHOP, COMPLEMENT, DIAMOND, FALSE, MU, NU, OR, PROPOSITION, TAU, TRUE, VARIABLE,
 };
@@ -53,6 +54,7 @@ pub fn case(rng: &mut Rng, bounds: Bounds) -> Case {
         steps: steps(rng, bounds.states),
         nodes: rule.nodes,
         root,
+        starts: starts(rng, bounds.states),
     }
 }
 

@@ -1,6 +1,7 @@
 //! Valid cases: shared nodes, nested binders, unreached nodes with free variables.
 use crate::groups::group;
 use crate::rng::Rng;
+use crate::starts::starts;
 use plain::kinds::{
     values_of_a, AND, BOX, CHOP, COMPLEMENT, DIAMOND, FALSE, GROUP_BOX, GROUP_DIAMOND, MU, NU, OR,
     PROPOSITION, TAU, TRUE, VARIABLE,
@@ -41,6 +42,7 @@ fn drawn(rng: &mut Rng) -> Drawn {
         steps,
         nodes: rule.nodes,
         root,
+        starts: starts(rng, states),
     };
     Drawn {
         case,

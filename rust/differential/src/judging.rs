@@ -1,4 +1,5 @@
-//! The comparison of judging by the two checkers, every lent word included.
+//! The comparison of judging by the two checkers, every lent word included, and of the word on the
+//! start states.
 use crate::replies::in_plain;
 use crate::rng::Rng;
 use plain::{Case, Refusal, Verdict};
@@ -34,6 +35,19 @@ pub fn compare(file: &[u8], set: u16, words: usize) -> Judged {
     proved
 }
 
+/// Asks both checkers, which must agree, whether every start state holds, and returns their reply.
+pub fn compare_starts(file: &[u8], words: usize) -> Result<bool, Refusal> {
+    let plain = plain::starts_hold(file, words);
+    let proved = proved_starts(file, words);
+    assert_eq!(proved, plain, "start states, {words} words, file {file:?}");
+    proved
+}
+
+/// The same by the proved library alone.
+pub fn proved_starts(file: &[u8], words: usize) -> Result<bool, Refusal> {
+    lending(file, words, 0, hoidrul::starts_hold)
+}
+
 /// Judges a valid case on these sets by the proved library, compares with the root's function by
 /// the plain checker, and returns the rounds.
 pub fn compare_sets(case: &Case, sets: &[u16]) -> u64 {
@@ -64,9 +78,21 @@ pub fn compare_with_all_functions(case: &Case) -> u64 {
     rounds
 }
 
-/// Judges by the proved library alone, in an area that held garbage, and checks every word of it:
-/// zero after an answer, unchanged after a refusal.
+/// Judges by the proved library alone.
 pub fn proved(file: &[u8], set: u16, words: usize) -> Judged {
+    let judge = |file: &[u8], work: &mut [u16]| hoidrul::judge(file, set, work);
+    let reply = lending(file, words, set, judge);
+    reply.map(|verdict| in_states(file, verdict))
+}
+
+/// Calls the library with an area that held garbage, and checks every word of it: zero after an
+/// answer, unchanged after a refusal.
+fn lending<T: std::fmt::Debug>(
+    file: &[u8],
+    words: usize,
+    set: u16,
+    call: impl FnOnce(&[u8], &mut [u16]) -> Result<T, hoidrul::Refusal>,
+) -> Result<T, Refusal> {
     let mut rng = Rng::new(words as u64 ^ u64::from(set) << 32);
     let before: Vec<u16> = (0..words + 2 * MARGIN)
         .map(|_| rng.number() as u16)
@@ -75,7 +101,7 @@ pub fn proved(file: &[u8], set: u16, words: usize) -> Judged {
     let lent = MARGIN..MARGIN + words;
     let file_before = file.to_vec();
 
-    let reply = hoidrul::judge(file, set, &mut area[lent.clone()]);
+    let reply = call(file, &mut area[lent.clone()]);
 
     assert!(black_box(file) == file_before, "the lent file was changed");
     let mut expected = before;
@@ -86,7 +112,7 @@ pub fn proved(file: &[u8], set: u16, words: usize) -> Judged {
         black_box(&area) == &expected,
         "the work area after {reply:?}, set {set}, {words} words, file {file:?}"
     );
-    in_plain(reply).map(|verdict| in_states(file, verdict))
+    in_plain(reply)
 }
 
 /// The verdict with its set state by state; bits beyond the case must be 0.

@@ -18,5 +18,6 @@ pub mod printed;
 pub mod printer;
 pub mod replies;
 pub mod rng;
+pub mod starts;
 pub mod strange;
 pub mod tally;

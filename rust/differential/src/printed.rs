@@ -1,6 +1,6 @@
 //! What the judging program must print, by the plain checker.
 use crate::judging::all_states;
-use plain::{judge, vet, Refusal};
+use plain::{judge, starts_hold, vet, Refusal};
 use std::fmt::Write as _;
 
 /// The program's work area, in words.
@@ -14,10 +14,18 @@ pub fn wanted(file: &[u8]) -> String {
         Ok(verdict) => {
             let mut print = format!("states {states}\nrounds {}\n", verdict.rounds);
             for (state, &holds) in verdict.states.iter().enumerate() {
-                let holds = if holds { "yes" } else { "no" };
-                writeln!(print, "{state} {holds}").expect("room in a string");
+                writeln!(print, "{state} {}", word(holds)).expect("room in a string");
             }
-            print
+            let hold = starts_hold(file, WORDS).expect("it has been judged");
+            print + &format!("starts {}\n", word(hold))
         }
+    }
+}
+
+pub fn word(holds: bool) -> &'static str {
+    if holds {
+        "yes"
+    } else {
+        "no"
     }
 }

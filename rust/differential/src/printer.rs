@@ -1,7 +1,8 @@
 //! Rules on the drive of a label printer, most of them of the source documents. Its motor turns a
 //! roller, which feeds the paper or pulls it back, a step at a time, or keeps a ribbon tight. Where
 //! a state can hold, the table has a sound drive in its lower states and one with a fault beside it.
-use crate::drives::case;
+//! The start states are those in which the printer may wake.
+use crate::drives::{case, starting_in};
 use plain::{Case, Triple};
 
 const FEED: u8 = 0;
@@ -23,7 +24,7 @@ const MARK: Triple = (2, 0, 0);
 /// after each n steps fed, n steps pulled back can lead to the mark.
 ///
 /// Three rollers, of 2, 3 and 3 positions, with one mark each: 0, 2 and 5. A step back undoes a
-/// step fed, but on the third roller pulling back from 7 skips 6.
+/// step fed, but on the third roller pulling back from 7 skips 6. The printer wakes at a mark.
 pub fn feed_and_back() -> Case {
     let steps = [
         (0, FEED, 1),
@@ -55,13 +56,14 @@ pub fn feed_and_back() -> Case {
         (12, 0, 7), // νZ
         (10, 8, 4),
     ];
-    case(&[1, 0, 1, 0, 0, 1, 0, 0], &steps, &nodes)
+    starting_in(&[0, 2, 5], case(&[1, 0, 1, 0, 0, 1, 0, 0], &steps, &nodes))
 }
 
 /// Document 001, first example: νY.[back];ff and [feed];(νZ.[back] and [feed];Z;Z);(([feed];ff and
 /// [back];ff) or Y). Never more steps have been pulled back than fed.
 ///
-/// States 0 to 2 are so many steps fed. From 3 one step fed can be followed by two back.
+/// States 0 to 2 are so many steps fed. From 3 one step fed can be followed by two back. The printer
+/// wakes with nothing fed, in 0.
 pub fn no_more_back_than_fed() -> Case {
     let steps = [
         (0, FEED, 1),
@@ -91,7 +93,7 @@ pub fn no_more_back_than_fed() -> Case {
         (9, 5, 14),  // [back];ff and that
         (12, 1, 15),
     ];
-    case(&[0; 6], &steps, &nodes)
+    starting_in(&[0], case(&[0; 6], &steps, &nodes))
 }
 
 /// Document 004, example 2: (νZ.⟨feed⟩;(Z and τ);([back] and ⟨back⟩));([feed];ff and [back];ff).
@@ -136,7 +138,8 @@ pub fn exactly_as_many_back() -> Case {
 /// Document 004, the proof of hardness for a fixed rule: (νZ.τ and Z;⟨feed⟩ and Z;⟨back⟩);at rest.
 /// Whatever commands come, after the last of them the motor can be at rest.
 ///
-/// From 0 a command goes on to the next, in 1, or is the last, in 2. From 3 a step back never is.
+/// From 0 a command goes on to the next, in 1, or is the last, in 2. From 3 a step back never is. The
+/// printer wakes at rest, in 0, 2 or 3.
 pub fn at_rest_after_any() -> Case {
     let steps = [
         (0, FEED, 1),
@@ -164,14 +167,14 @@ pub fn at_rest_after_any() -> Case {
         (12, 0, 8), // νZ
         (10, 9, 4),
     ];
-    case(&[1, 0, 1, 1], &steps, &nodes)
+    starting_in(&[0, 2, 3], case(&[1, 0, 1, 1], &steps, &nodes))
 }
 
 /// (νZ.τ and [back];Z;([feed] and ⟨feed⟩));cutter. As many steps as have been pulled back can be
 /// fed again, and however they are, the label is at the cutter again.
 ///
 /// From the cutter, 0, up to two steps are pulled back. From 3 one is, and feeding it may slip,
-/// to 5.
+/// to 5. The printer wakes in 0.
 pub fn pulled_back_fed_again() -> Case {
     let steps = [
         (0, BACK, 1),
@@ -196,14 +199,14 @@ pub fn pulled_back_fed_again() -> Case {
         (12, 0, 9), // νZ
         (10, 10, 5),
     ];
-    case(&[1, 0, 0, 1, 0, 0], &steps, &nodes)
+    starting_in(&[0], case(&[1, 0, 0, 1, 0, 0], &steps, &nodes))
 }
 
 /// νZ.tight and [any current];Z. Whatever currents the motor gets, one after the other, the ribbon
 /// is tight. The currents are the eight actions, and one group has them all.
 ///
 /// Every current leads from 0 to 1 and from 1 to 0. In 2 the highest one makes the ribbon slack, in
-/// 3. In 4 the motor takes no current, and from 5 it gets there.
+/// 3. In 4 the motor takes no current, and from 5 it gets there. The printer wakes in 0 or in 5.
 pub fn tight_at_any_current() -> Case {
     let nodes = [
         Z,
@@ -235,5 +238,5 @@ fn ribbon(nodes: &[Triple]) -> Case {
     }
     steps.extend((0..7).map(|current| (2, current, 2)));
     steps.extend([(2, 7, 3), (3, 0, 2), (5, 3, 4)]);
-    case(&[1, 1, 1, 0, 1, 1], &steps, nodes)
+    starting_in(&[0, 5], case(&[1, 1, 1, 0, 1, 1], &steps, nodes))
 }

@@ -18,12 +18,13 @@ pub const STRANGE: [Strange; 6] = [
 
 /// A section number: often one that there is, sometimes one that a shorter word would take for it.
 pub fn section(rng: &mut Rng) -> usize {
-    const HUGE: [usize; 9] = [
+    const HUGE: [usize; 10] = [
         256,
         1 << 16,
         (1 << 16) + 1,
         1 << 32,
         (1 << 32) + 2,
+        (1 << 32) + 3,
         1 << 63,
         usize::MAX,
         usize::MAX - 1,
@@ -32,7 +33,7 @@ pub fn section(rng: &mut Rng) -> usize {
     if rng.one_in(16) {
         rng.pick(&HUGE)
     } else {
-        rng.pick(&[0, 0, 0, 1, 1, 1, 2, 2, 2, 3, 4])
+        rng.pick(&[0, 0, 0, 1, 1, 1, 2, 2, 2, 3, 3, 3, 4, 5])
     }
 }
 
@@ -55,8 +56,12 @@ fn bytes_changed(rng: &mut Rng) -> Vec<u8> {
 fn sections_swapped(rng: &mut Rng) -> Vec<u8> {
     let file = write(&case(rng));
     let part = |section| &file[plain::open(&file, section).expect("a valid case")];
-    let orders = [[0, 2, 1], [1, 0, 2], [1, 2, 0], [2, 0, 1], [2, 1, 0]];
-    pack(&rng.pick(&orders).map(part))
+    let mut parts = [0, 1, 2, 3].map(part);
+    for _ in 0..rng.within(1..=3) {
+        let second = rng.within(1..=3);
+        parts.swap(rng.below(second), second);
+    }
+    pack(&parts)
 }
 
 /// Right pairs over the bytes of a valid file, with the borders moved a little.
@@ -68,7 +73,10 @@ fn sections_cut_elsewhere(rng: &mut Rng) -> Vec<u8> {
     let mut moved = |border: usize| (border + rng.below(7)).saturating_sub(3).min(body.len());
     let first = moved(states);
     let second = moved(states + 3 * case.steps.len()).max(first);
-    pack(&[&body[..first], &body[first..second], &body[second..]])
+    let third = moved(body.len() - case.starts.len()).max(second);
+    let (table, rest) = body.split_at(second);
+    let (rule, starts) = rest.split_at(third - second);
+    pack(&[&table[..first], &table[first..], rule, starts])
 }
 
 /// Right pairs, sections of any length near the limits, small bytes.
@@ -80,7 +88,8 @@ fn any_sections(rng: &mut Rng) -> Vec<u8> {
     let labels = section(&[0, 1, 2, 8, 15, 16, 17, 18, 256, 257]);
     let steps = section(&[0, 0, 0, 0, 1, 2, 3, 4, 6, 9]);
     let rule = section(&[0, 1, 2, 3, 4, 5, 6, 7, 10, 190, 193, 194, 196, 769]);
-    pack(&[&labels, &steps, &rule])
+    let starts = section(&[0, 0, 0, 0, 1, 1, 2, 3, 16, 17]);
+    pack(&[&labels, &steps, &rule, &starts])
 }
 
 /// A right state table under nodes that are mostly in range.
@@ -106,7 +115,7 @@ fn any_node(rng: &mut Rng, number: usize) -> Triple {
 /// Bytes without meaning; every other file begins as a case does.
 fn any_bytes(rng: &mut Rng) -> Vec<u8> {
     const LENGTHS: [usize; 14] = [
-        0, 1, 4, 11, 12, 13, 16, 51, 100, 6364, 6365, 6366, 65_535, 70_000,
+        0, 1, 4, 12, 15, 16, 17, 55, 100, 6384, 6385, 6386, 65_535, 70_000,
     ];
     let length = if rng.one_in(4) {
         rng.pick(&LENGTHS)
@@ -116,7 +125,7 @@ fn any_bytes(rng: &mut Rng) -> Vec<u8> {
     let mut file = rng.bytes(length);
     if rng.one_in(2) {
         file.iter_mut()
-            .zip([12, 0, 2, 0, 14, 0, 0, 0, 14, 0])
+            .zip([16, 0, 2, 0, 18, 0, 0, 0, 18, 0])
             .for_each(|(byte, right)| *byte = right);
     }
     file

@@ -16,6 +16,8 @@ pub struct Tally {
     pub answers: usize,
     /// Those of them about a rule that has a node with a group.
     pub with_groups: usize,
+    /// Those about a case that has start states.
+    pub with_starts: usize,
     /// By number; index 0 is unused.
     pub refusals: [usize; 14],
     /// Those of them whose place is not 0.
@@ -33,6 +35,7 @@ impl Tally {
                 let case = plain::parse(file).expect("what is answered is a case");
                 let has_groups = case.nodes.iter().any(|&node| has_group(node));
                 self.with_groups += usize::from(has_groups);
+                self.with_starts += usize::from(!case.starts.is_empty());
             }
             Err(refusal) => {
                 self.refusals[refusal.number as usize] += 1;

@@ -89,18 +89,25 @@ fn each_edit_is_named_in_proved() {
     }
 }
 
-/// What each edit takes out stands in its file once: else it would try nothing.
+/// What each edit takes out stands in its file once, as the pairs before leave it: else it would try
+/// nothing, or something else.
 #[test]
 fn each_edit_applies() {
     let mut edits = 0;
     for krate in entries(&root().join("crates")) {
         for path in entries(&krate.join("must-fail")) {
             let edit = fs::read_to_string(&path).expect("an edit");
-            let named = |mark| edit.lines().find_map(|line| line.strip_prefix(mark));
-            let file = krate.join(named("file: ").expect("a file"));
-            let text = fs::read_to_string(file).expect("its file");
-            let old = named("old: ").expect("an old text");
-            assert_eq!(text.matches(old.trim()).count(), 1, "{path:?}");
+            let named = |mark| edit.lines().filter_map(move |line| line.strip_prefix(mark));
+            let file = krate.join(named("file: ").next().expect("a file"));
+            let mut text = fs::read_to_string(file).expect("its file");
+            let (olds, news) = (named("old: "), named("new:"));
+            assert_eq!(olds.clone().count(), news.clone().count(), "{path:?}");
+            assert!(olds.clone().count() > 0, "{path:?}");
+            for (old, new) in olds.zip(news) {
+                let (old, new) = (old.trim(), new.trim());
+                assert_eq!(text.matches(old).count(), 1, "{old}: {path:?}");
+                text = text.replace(old, new);
+            }
             edits += 1;
         }
     }

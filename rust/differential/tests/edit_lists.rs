@@ -1,9 +1,9 @@
 //! Whole lists of edits, refused ones included, by the library and by the plain book, from fixed
 //! seeds. At the end each state of the first case must hold if and only if the state standing for
-//! it does.
+//! it does, and every start state of the last case if and only if every one of the first did.
 use differential::edits::{turn, LONGEST};
 use differential::groups::has_group;
-use differential::judging::{all_states, needed, proved};
+use differential::judging::{all_states, needed, proved, proved_starts};
 use differential::rng::Rng;
 use differential::{alike_tables, chops, drives, generate};
 use plain::{write, Book, Case, Edit, Shape, Triple};
@@ -20,16 +20,23 @@ struct Count {
     refusals: [usize; 14],
     /// Lists of a case in which some states hold and some do not.
     mixed: usize,
+    /// Lists of a case that has start states, by whether all of these hold: no, yes.
+    starts: [usize; 2],
+    /// Merges of a start state into another state.
+    starts_merged: usize,
 }
 
 impl Count {
     /// An edit of this file that wrote another.
     fn accepted(&mut self, file: &[u8], edit: Edit, written: &[u8]) {
-        let nodes = plain::parse(file).expect("a case").nodes;
+        let case = plain::parse(file).expect("a case");
+        let nodes = case.nodes;
         let groups = |nodes: &[Triple]| nodes.iter().any(|&node| has_group(node));
         match edit {
-            Edit::Merge { .. } => {
+            Edit::Merge { s, t } => {
                 self.merges += 1;
+                let removed = s.max(t) as u8;
+                self.starts_merged += usize::from(case.starts.contains(&removed));
                 self.merges_with_groups += usize::from(groups(&nodes));
             }
             Edit::Rewrite { node, .. } => {
@@ -47,6 +54,14 @@ fn verdict(file: &[u8]) -> Vec<bool> {
     let (states, _) = plain::vet(file, 0).expect("a case");
     let judged = proved(file, all_states(states), needed(file));
     judged.expect("the area suffices").states
+}
+
+/// Whether every start state holds, of the states in the verdict.
+fn last_word(file: &[u8], verdict: &[bool]) -> bool {
+    let starts = plain::parse(file).expect("a case").starts;
+    let hold = starts.iter().all(|&state| verdict[usize::from(state)]);
+    assert_eq!(proved_starts(file, needed(file)), Ok(hold), "{file:?}");
+    hold
 }
 
 fn is_mixed(verdict: &[bool]) -> bool {
@@ -73,6 +88,10 @@ fn run(rng: &mut Rng, first: &[u8], count: &mut Count) {
     count.mixed += usize::from(is_mixed(&start));
     let standing: Vec<bool> = book.standing().iter().map(|&state| end[state]).collect();
     assert_eq!(start, standing, "{first:?} became {file:?}");
+    let word = last_word(first, &start);
+    assert_eq!(word, last_word(&file, &end), "{first:?} became {file:?}");
+    let listed = !plain::parse(first).expect("a case").starts.is_empty();
+    count.starts[usize::from(word)] += usize::from(listed);
 }
 
 /// Mostly an edit that fits, if a few draws find one; merges are rarer, so that states last.
@@ -140,7 +159,7 @@ fn case(rng: &mut Rng, i: usize) -> Case {
 
 #[test]
 fn alike_states() {
-    let mut rng = Rng::new(900);
+    let mut rng = Rng::new(901);
     let mut count = Count::default();
     for i in 0..300 {
         // A verdict of all states or none tells little: a few draws look for another.
@@ -154,6 +173,8 @@ fn alike_states() {
         assert!(count.refusals[row] >= 20, "{count:?}");
     }
     assert!(count.mixed >= 80, "{count:?}");
+    assert!(count.starts.iter().all(|&lists| lists >= 40), "{count:?}");
+    assert!(count.starts_merged >= 50, "{count:?}");
     assert!(count.merges_with_groups >= 100, "{count:?}");
     assert!(count.between_groups >= 100, "{count:?}");
 }

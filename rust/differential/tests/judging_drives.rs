@@ -1,8 +1,9 @@
 //! The files of the folder `cases`, judged by both checkers.
 use differential::drives::{drives, read};
 use differential::judging::{
-    all_states, compare, compare_sets, compare_with_all_functions, needed, set_of,
+    all_states, compare, compare_sets, compare_starts, compare_with_all_functions, needed, set_of,
 };
+use differential::printed::word;
 use differential::printer;
 
 /// Judges the file on the set: the answer's states, and rounds.
@@ -22,8 +23,8 @@ fn numbers(cell: &str) -> Vec<usize> {
     cell.split(", ").map(number).collect()
 }
 
-/// The tables of cases/README.md say of each file how many states and nodes it has, and which of
-/// its states hold.
+/// The tables of cases/README.md say of each file how many states and nodes it has, which of its
+/// states hold, what its start states are and whether all of these hold.
 #[test]
 fn every_file_on_all_states() {
     let tables = String::from_utf8(read("README.md")).unwrap();
@@ -31,11 +32,17 @@ fn every_file_on_all_states() {
     for line in tables.lines().filter(|line| line.starts_with("| `")) {
         let cells: Vec<&str> = line.split('|').map(str::trim).collect();
         let name = cells[1].trim_matches('`');
-        let case = plain::parse(&read(name)).unwrap();
+        let file = read(name);
+        let case = plain::parse(&file).unwrap();
         let (states, nodes) = (case.labels.len(), case.nodes.len());
         assert_eq!(numbers(cells[2]), [states, nodes], "{name}");
         let (holding, _) = judged(name, all_states(states));
         assert_eq!(holding, numbers(cells[3]), "{name}");
+        let (starts, last) = cells[4].split_once(": ").expect("a list and a word");
+        let listed: Vec<usize> = case.starts.iter().map(|&s| s.into()).collect();
+        assert_eq!(listed, numbers(starts), "{name}");
+        let hold = compare_starts(&file, needed(&file)).unwrap();
+        assert_eq!(word(hold), last, "{name}");
         names.push(name);
     }
     assert!(names.iter().eq(drives().iter().map(|(name, _)| name)));

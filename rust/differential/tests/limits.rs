@@ -1,5 +1,5 @@
 //! The last value that passes and the first that does not, by both checkers.
-use differential::drives::longest;
+use differential::drives::{longest, starting_in};
 use differential::replies::refused;
 use differential::tally::{compare, Reply};
 use plain::{pack, write, Case, Triple};
@@ -10,6 +10,7 @@ fn vetted(states: usize, steps: &[Triple], nodes: &[Triple]) -> Reply {
         steps: steps.to_vec(),
         nodes: nodes.to_vec(),
         root: 0,
+        starts: vec![],
     };
     compare(&write(&case), 0)
 }
@@ -97,6 +98,7 @@ fn variables() {
         steps: vec![],
         nodes,
         root: 46,
+        starts: vec![],
     };
     assert_eq!(compare(&write(&case), 2), Ok((1, 47)));
     for root in 0..46 {
@@ -109,36 +111,80 @@ fn variables() {
 fn file_lengths() {
     let mut case = longest();
     let mut file = write(&case);
-    assert_eq!(file.len(), 6365);
-    for section in 0..3 {
+    assert_eq!(file.len(), 6385);
+    for section in 0..4 {
         assert_eq!(compare(&file, section), Ok((16, 64)));
     }
-    assert_eq!(compare(&file[..6364], 0), refused(1, 0));
+    assert_eq!(compare(&file[..6384], 0), refused(1, 0));
     file.push(0);
     assert_eq!(compare(&file, 0), refused(1, 0));
 
     // Right pairs, so only the length of the file is wrong for row 1.
     case.labels.push(0);
-    assert_eq!(write(&case).len(), 6366);
+    assert_eq!(write(&case).len(), 6386);
     assert_eq!(compare(&write(&case), 0), refused(1, 0));
     case.steps.pop();
     assert_eq!(compare(&write(&case), 0), refused(2, 0));
 }
 
+/// A start state more is one that the table does not have: alone it gets row 4, and in the longest
+/// file row 1.
+#[test]
+fn start_states() {
+    let longest = longest();
+    let mut short = longest.clone();
+    short.steps.clear();
+    for count in 0..=17 {
+        let starts = Vec::from_iter(0..count);
+        let reply = if count < 17 {
+            Ok((16, 64))
+        } else {
+            refused(4, 0)
+        };
+        let file = write(&starting_in(&starts, short.clone()));
+        assert_eq!(compare(&file, 3), reply, "{count} start states");
+    }
+    let file = write(&starting_in(&Vec::from_iter(0..17), longest));
+    assert_eq!(file.len(), 6386);
+    assert_eq!(compare(&file, 3), refused(1, 0));
+}
+
+/// A state of the table, and those beyond it, as the only start state and as the last.
+#[test]
+fn highest_start_state() {
+    for states in 1..=16 {
+        let with = |starts: &[u8]| {
+            let case = Case {
+                labels: vec![0; states.into()],
+                steps: vec![],
+                nodes: vec![TT],
+                root: 0,
+                starts: starts.to_vec(),
+            };
+            compare(&write(&case), 3)
+        };
+        assert_eq!(with(&[states - 1]), Ok((states.into(), 1)));
+        for beyond in [states, states + 1, 16, 128, 255] {
+            assert_eq!(with(&[beyond]), refused(4, 0), "{beyond} of {states}");
+            assert_eq!(with(&[0, beyond]), refused(4, 0), "{beyond} of {states}");
+        }
+    }
+}
+
 /// Zeros, and right pairs over nothing but labels, of every length near a border.
 #[test]
 fn lengths_near_the_borders() {
-    let near = || (12..=40).chain(6350..=6380).chain(65_520..=65_535);
-    for length in (0..12).chain(near()) {
+    let near = || (16..=40).chain(6370..=6400).chain(65_520..=65_535);
+    for length in (0..16).chain(near()) {
         assert_eq!(compare(&vec![0; length], 0), refused(1, 0), "{length}");
     }
     for length in near() {
         let row = match length {
-            13..=28 => 4,
-            12..=6365 => 2,
+            17..=32 => 4,
+            16..=6385 => 2,
             _ => 1,
         };
-        let file = pack(&[&vec![0; length - 12], &[], &[]]);
+        let file = pack(&[&vec![0; length - 16], &[], &[], &[]]);
         assert_eq!(compare(&file, 0), refused(row, 0), "{length}");
     }
 }
@@ -161,6 +207,7 @@ fn shared_nodes_are_looked_at_once() {
             steps: vec![],
             nodes,
             root: 63,
+            starts: vec![],
         };
         assert_eq!(compare(&write(&case), 2), reply);
     }

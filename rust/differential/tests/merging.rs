@@ -15,11 +15,52 @@ fn states_and_beyond(states: usize) -> Vec<usize> {
 #[test]
 fn examples_of_the_table() {
     let f = write(&drives::f());
-    assert_eq!(merge(&f, 0, 1, 51), refused(10, 0));
-    assert_eq!(merge(&f, 1, 1, 51), refused(10, 0));
-    assert_eq!(merge(&f, 2, 2, 51), refused(8, 0));
+    assert_eq!(merge(&f, 0, 1, 55), refused(10, 0));
+    assert_eq!(merge(&f, 1, 1, 55), refused(10, 0));
+    assert_eq!(merge(&f, 2, 2, 55), refused(8, 0));
     assert_eq!(merge(&f, 0, 2, 0), refused(8, 0));
     assert_eq!(merge(&f, 0, 1, 0), refused(10, 0));
+}
+
+/// So many states without steps, all of them alike, and the start states after a merge.
+fn merged_starts(states: usize, starts: &[u8], s: usize, t: usize) -> Vec<u8> {
+    let case = drives::case(&vec![0; states], &[], &[(5, 0, 0)]);
+    let file = write(&drives::starting_in(starts, case));
+    let merged = merge(&file, s, t, LONGEST).expect("alike states");
+    assert_eq!(merge(&file, t, s, LONGEST), Ok(merged.clone()));
+    // By the bytes of the file: the list stands behind the last node and the root.
+    assert_eq!(merged[12..14], [16 + states as u8 - 1 + 4, 0]);
+    merged[16 + states - 1 + 4..].to_vec()
+}
+
+#[test]
+fn start_states_are_carried() {
+    for (s, t, starts, carried) in [
+        (0, 2, &[1, 2][..], &[0, 1][..]),
+        (0, 2, &[0, 2], &[0]),
+        (0, 2, &[2], &[0]),
+        (0, 2, &[0], &[0]),
+        (0, 2, &[1], &[1]),
+        (0, 2, &[], &[]),
+        (0, 2, &[0, 1, 2], &[0, 1]),
+        (0, 1, &[2], &[1]),
+        (0, 1, &[1, 2], &[0, 1]),
+        (0, 1, &[0, 2], &[0, 1]),
+        (0, 1, &[0, 1], &[0]),
+        (1, 2, &[2], &[1]),
+        (1, 2, &[0, 2], &[0, 1]),
+        (1, 2, &[1, 2], &[1]),
+    ] {
+        assert_eq!(merged_starts(3, starts, s, t), carried, "{starts:?}");
+    }
+    let all = Vec::from_iter(0..16);
+    for (s, t) in [(0, 1), (0, 15), (14, 15), (7, 11)] {
+        assert_eq!(merged_starts(16, &all, s, t), all[..15], "{s}, {t}");
+    }
+    assert_eq!(merged_starts(16, &[3, 9, 15], 9, 12), [3, 9, 14]);
+    assert_eq!(merged_starts(16, &[3, 12, 15], 9, 12), [3, 9, 14]);
+    assert_eq!(merged_starts(16, &[3, 12, 15], 2, 12), [2, 3, 14]);
+    assert_eq!(merged_starts(16, &[8, 15], 8, 15), [8]);
 }
 
 #[test]
@@ -83,7 +124,7 @@ fn the_longest_case() {
     assert_eq!(file.len(), LONGEST);
     for (s, t) in [(0, 1), (15, 0), (7, 8), (15, 14)] {
         let result = merge(&file, s, t, LONGEST).unwrap();
-        assert_eq!(result.len(), 12 + 15 + 3 * 15 * 8 * 15 + 193);
+        assert_eq!(result.len(), 16 + 15 + 3 * 15 * 8 * 15 + 193 + 15);
         rooms(&file, &result, |file, room| merge(file, s, t, room));
     }
 }

@@ -1,6 +1,6 @@
 //! The judging program on standard input, its exact print against what the plain checker says.
 use differential::damage::expect_refusals;
-use differential::drives::{drives, longest, read, wheels};
+use differential::drives::{case, drives, longest, read, starting_in, wheels};
 use differential::formulas::{self, Bounds};
 use differential::generate;
 use differential::printed::{wanted, WORDS};
@@ -58,6 +58,7 @@ fn tau(states: usize, nodes: usize) -> Case {
         steps: vec![],
         nodes: vec![TAU; nodes],
         root: nodes as u8 - 1,
+        starts: vec![],
     }
 }
 
@@ -66,7 +67,7 @@ fn files_of_the_folder() {
     for (name, _) in drives() {
         let print = check(&read(name));
         if name == "f.case" {
-            assert_eq!(print, "states 2\nrounds 2\n0 yes\n1 yes\n");
+            assert_eq!(print, "states 2\nrounds 2\n0 yes\n1 yes\nstarts yes\n");
         }
     }
 }
@@ -74,7 +75,7 @@ fn files_of_the_folder() {
 #[test]
 fn input_in_pieces() {
     let file = read("f.case");
-    for cut in [1, 12, 50] {
+    for cut in [1, 16, 54] {
         let (first, second) = file.split_at(cut);
         assert_eq!(printed(&[first, second]), wanted(&file));
     }
@@ -89,9 +90,9 @@ fn no_input() {
 #[test]
 fn long_input() {
     let file = write(&longest());
-    assert_eq!(file.len(), 6_365);
+    assert_eq!(file.len(), 6_385);
     assert_eq!(check(&file), "refused 9 0\n");
-    for length in [6_366, 6_367, 8_192, 65_536, 200_000] {
+    for length in [6_386, 6_387, 8_192, 65_536, 200_000] {
         let mut longer = file.clone();
         longer.resize(length, 0);
         assert_eq!(check(&longer), "refused 1 0\n", "{length} bytes");
@@ -122,7 +123,38 @@ fn too_many_states() {
 fn two_digits() {
     let print = check_case(&wheels(3, 7));
     assert!(print.starts_with("states 11\nrounds 21\n0 yes\n1 no\n"));
-    assert!(print.ends_with("\n9 no\n10 no\n"));
+    assert!(print.ends_with("\n9 no\n10 no\nstarts yes\n"));
+}
+
+/// The rule p0 on so many states of which 0, 2, 4 and so on have it, with a list of start states.
+fn last_line(states: usize, starts: &[u8]) -> String {
+    let labels: Vec<u8> = (0..states).map(|state| u8::from(state % 2 == 0)).collect();
+    let case = starting_in(starts, case(&labels, &[], &[(2, 0, 0)]));
+    let print = check_case(&case);
+    assert_eq!(print.lines().count(), 2 + states + 1);
+    print.lines().last().expect("a line").to_string()
+}
+
+#[test]
+fn start_states() {
+    for starts in [&[][..], &[0], &[2], &[0, 2]] {
+        assert_eq!(last_line(3, starts), "starts yes", "{starts:?}");
+        assert_eq!(last_line(14, starts), "starts yes", "{starts:?}");
+    }
+    for starts in [&[1][..], &[0, 1], &[1, 2], &[0, 1, 2]] {
+        assert_eq!(last_line(3, starts), "starts no", "{starts:?}");
+        assert_eq!(last_line(14, starts), "starts no", "{starts:?}");
+    }
+    assert_eq!(last_line(14, &[0, 8, 10, 12]), "starts yes");
+    assert_eq!(last_line(14, &[0, 8, 10, 13]), "starts no");
+    assert_eq!(last_line(14, &[13]), "starts no");
+}
+
+/// No state of a drive holds, and there is none to start in.
+#[test]
+fn no_start_state() {
+    let print = check(&read("mu.case"));
+    assert_eq!(print, "states 1\nrounds 0\n0 no\nstarts yes\n");
 }
 
 #[test]
@@ -136,14 +168,18 @@ fn damaged_inputs() {
 #[test]
 fn random_cases() {
     let mut rng = Rng::new(530);
+    let (mut no, mut yes) = (0, 0);
     for i in 0..100 {
         let bounds = Bounds {
             states: 1 + i % 5,
             nesting: 3,
             depth: 4,
         };
-        check_case(&formulas::case(&mut rng, bounds));
+        let print = check_case(&formulas::case(&mut rng, bounds));
+        no += usize::from(print.ends_with("\nstarts no\n"));
+        yes += usize::from(print.ends_with("\nstarts yes\n"));
     }
+    assert!(no >= 20 && yes >= 20 && no + yes == 100, "{no} {yes}");
 }
 
 /// Too large for the work area.

@@ -16,7 +16,7 @@ fn valid_cases() {
         let file = write(&case);
         let section = section(&mut rng);
         let counts = (case.labels.len(), case.nodes.len());
-        let expected = if section < 3 {
+        let expected = if section < 4 {
             Ok(counts)
         } else {
             refused(8, 0)
@@ -27,7 +27,7 @@ fn valid_cases() {
     println!("{tally:?}");
     assert_eq!(tally.calls, 80_000);
     assert!(tally.answers > 20_000 && tally.refusals[8] > 5_000);
-    assert!(tally.with_groups > 10_000);
+    assert!(tally.with_groups > 10_000 && tally.with_starts > 15_000);
 }
 
 /// Each fault gets its own row and place, whatever the section number.
@@ -36,7 +36,7 @@ fn damaged_cases() {
     let mut tally = Tally::default();
     expect_refusals(100, 3_000, |rng, file| tally.compare(file, section(rng)));
     println!("{tally:?}");
-    assert_eq!(tally.calls, 120_000);
+    assert_eq!(tally.calls, 150_000);
     for row in 1..=7 {
         assert!(tally.refusals[row] >= 3_000, "row {row}");
     }
@@ -56,7 +56,7 @@ fn strange_files() {
     }
     println!("{tally:?}");
     assert_eq!(tally.calls, 120_000);
-    assert!(tally.answers >= 1_000 && tally.with_groups >= 500);
+    assert!(tally.answers >= 1_000 && tally.with_groups >= 500 && tally.with_starts >= 500);
     for row in 1..=8 {
         assert!(tally.refusals[row] >= 100, "row {row}");
     }

@@ -56,9 +56,9 @@ impl Count {
 #[test]
 fn examples_of_the_table() {
     let f = write(&drives::f());
-    assert_eq!(rewrite(&f, 1, 9, 51), refused(11, 0));
-    assert_eq!(rewrite(&f, 9, 8, 50), refused(13, 0));
-    assert_eq!(rewrite(&f, 9, 8, 51).unwrap()[44..47], [8, 6, 7]);
+    assert_eq!(rewrite(&f, 1, 9, 55), refused(11, 0));
+    assert_eq!(rewrite(&f, 9, 8, 54), refused(13, 0));
+    assert_eq!(rewrite(&f, 9, 8, 55).unwrap()[48..51], [8, 6, 7]);
 }
 
 #[test]
@@ -118,6 +118,7 @@ fn shape(top: u8, left: u8, right: u8, twice: bool) -> Case {
         steps: vec![(0, 0, 0)],
         nodes,
         root: if closed { 4 + top % 4 } else { 0 },
+        starts: if twice { vec![0] } else { vec![] },
     }
 }
 
@@ -188,6 +189,27 @@ fn groups_stay_as_they_are() {
         expect(9, [ab, (8, 3, 2)], &[ab, (8, 2, 3)], 4);
         assert_eq!(rewritten(3, &rule(&[ab, (10, 0, 3)], 4)), refused(11, 0));
     }
+}
+
+/// Under every law that fits: the last bytes of the file, and the pair that says so.
+#[test]
+fn start_states_stay() {
+    let mut fitted = [0; 10];
+    for (i, case) in shapes().enumerate() {
+        let starts = [&[][..], &[0], &[1, 3], &[0, 1, 2, 3]][i % 4];
+        let labels = vec![0; 4];
+        let file = write(&drives::starting_in(starts, Case { labels, ..case }));
+        for (law, count) in fitted.iter_mut().enumerate().skip(1) {
+            let Ok(result) = rewrite(&file, law, 4, LONGEST) else {
+                continue;
+            };
+            let (rest, list) = result.split_at(result.len() - starts.len());
+            assert_eq!(list, starts, "law {law}");
+            assert_eq!(rest[12..16], [rest.len() as u8, 0, list.len() as u8, 0]);
+            *count += 1;
+        }
+    }
+    assert!(fitted[1..].iter().all(|&count| count >= 20), "{fitted:?}");
 }
 
 /// Leaves before the shape, or behind it, up to so many nodes.

@@ -1,18 +1,19 @@
 //! Changes of a file that make it a wrong case, or at times another right one.
 use differential::groups;
 use differential::rng::Rng;
-use plain::{pack, PAIRS_LENGTH};
+use plain::{pack, write, PAIRS_LENGTH};
 
 /// One to three changes.
 pub fn change(rng: &mut Rng, file: &mut Vec<u8>) {
     for _ in 0..rng.within(1..=3) {
-        match rng.below(8) {
+        match rng.below(9) {
             0 => flip(rng, file),
             1..=2 => border_byte(rng, file),
             3 => border_pair(rng, file),
             4 => cut(rng, file),
             5 => lengthen(rng, file),
             6 => group(rng, file),
+            7 => start(rng, file),
             _ => section(rng, file),
         }
     }
@@ -42,9 +43,9 @@ fn border_byte(rng: &mut Rng, file: &mut [u8]) {
 
 /// An offset or a length at a border.
 fn border_pair(rng: &mut Rng, file: &mut [u8]) {
-    const BORDERS: [usize; 10] = [0, 1, 11, 12, 13, 255, 256, 6365, 32_768, 65_535];
+    const BORDERS: [usize; 10] = [0, 1, 15, 16, 17, 255, 256, 6385, 32_768, 65_535];
     let length = file.len();
-    let at = 2 * rng.below(6);
+    let at = 2 * rng.below(PAIRS_LENGTH / 2);
     if let Some(number) = file.get_mut(at..at + 2) {
         let sections = length.saturating_sub(PAIRS_LENGTH);
         let near = [length, length - 1, length + 1, sections];
@@ -80,23 +81,56 @@ fn group(rng: &mut Rng, file: &mut [u8]) {
     file[at..at + 3].copy_from_slice(&[kind, group, b]);
 }
 
+/// A byte more in the list of start states, in its place or not, if the file is still a case.
+fn start(rng: &mut Rng, file: &mut Vec<u8>) {
+    let Ok(mut case) = plain::parse(file) else {
+        return;
+    };
+    let state = rng.byte_below(case.labels.len() + 2);
+    let place = if rng.one_in(2) {
+        case.starts.partition_point(|&before| before < state)
+    } else {
+        rng.below(case.starts.len() + 1)
+    };
+    case.starts.insert(place, state);
+    *file = write(&case);
+}
+
 /// A section cut or lengthened under right pairs, if the file is still a case.
 fn section(rng: &mut Rng, file: &mut Vec<u8>) {
     let mut parts = vec![];
-    for number in 0..3 {
+    for number in 0..4 {
         let Ok(part) = plain::open(file, number) else {
             return;
         };
         parts.push(file[part].to_vec());
     }
-    let part = &mut parts[rng.below(3)];
+    let part = &mut parts[rng.below(4)];
     let (back, more) = (rng.below(4), rng.below(4));
     part.truncate(part.len().saturating_sub(back));
     part.extend(rng.bytes(more).iter().map(|byte| byte % 16));
-    *file = pack(&[&parts[0], &parts[1], &parts[2]]);
+    let parts: Vec<&[u8]> = parts.iter().map(Vec::as_slice).collect();
+    *file = pack(&parts);
 }
 
 fn any_byte<'a>(rng: &mut Rng, file: &'a mut [u8]) -> Option<&'a mut u8> {
     let at = rng.below(file.len().max(1));
     file.get_mut(at)
+}
+
+#[cfg(test)]
+mod tests {
+    use super::*;
+
+    /// Every change takes a file of any length, also one that ends within the head or before it.
+    #[test]
+    fn short_files() {
+        let mut rng = Rng::new(1);
+        for length in 0..=2 * PAIRS_LENGTH {
+            for _ in 0..500 {
+                let mut file = rng.bytes(length);
+                change(&mut rng, &mut file);
+            }
+        }
+    }
 }

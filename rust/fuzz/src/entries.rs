@@ -27,6 +27,8 @@ fn judge(rng: &mut Rng, file: &[u8], case: &Case, replies: &mut Replies) {
     let set = arguments::set(rng, case.labels.len());
     let words = arguments::words(rng, case);
     replies.count(Entry::Judge, &judging::compare(file, set, words));
+    // The binding's own, made of vetting, judging and opening.
+    let _ = judging::compare_starts(file, words);
 }
 
 fn edit(rng: &mut Rng, file: &[u8], edit: Edit, replies: &mut Replies) {
@@ -73,5 +75,6 @@ fn small() -> Case {
         steps: vec![],
         nodes: vec![(5, 0, 0); 4],
         root: 0,
+        starts: vec![],
     }
 }

@@ -92,4 +92,21 @@ mod tests {
         assert!(4 * reached >= cases, "{reached} of {cases}");
         assert_eq!(groups.len(), 2 * 256);
     }
+
+    /// Of the files that are cases many have start states, and every state is one of some case.
+    #[test]
+    fn starts() {
+        let mut rng = Rng::new(2);
+        let (mut cases, mut listed, mut states) = (0, 0, BTreeSet::new());
+        for _ in 0..10_000 {
+            let Ok(case) = plain::parse(&any(&mut rng)) else {
+                continue;
+            };
+            cases += 1;
+            listed += usize::from(!case.starts.is_empty());
+            states.extend(case.starts);
+        }
+        assert!((cases / 4..cases).contains(&listed), "{listed} of {cases}");
+        assert_eq!(states.len(), 16);
+    }
 }

@@ -2,12 +2,13 @@
 use crate::replies::{Entry, Replies};
 use crate::{arguments, entries, files};
 use differential::edits::turn;
-use differential::judging::{all_states, compare, needed};
+use differential::judging::{all_states, compare, compare_starts, needed};
 use differential::rng::Rng;
 use plain::{write, Book};
 
 /// Makes up to 12 edits of a case, and returns the file that they lead to. Each state of the first
-/// case must hold if and only if the state standing for it does.
+/// case must hold if and only if the state standing for it does, and every start state of the last
+/// case if and only if every one of the first did.
 pub fn edits(rng: &mut Rng, replies: &mut Replies) -> Vec<u8> {
     let first = write(&files::with_alike_states(rng));
     let mut book = Book::new(&first).expect("a valid case");
@@ -24,6 +25,8 @@ pub fn edits(rng: &mut Rng, replies: &mut Replies) -> Vec<u8> {
     if let (Some(start), Some(end)) = (verdict(&first, replies), verdict(&file, replies)) {
         let standing: Vec<bool> = book.standing().iter().map(|&state| end[state]).collect();
         assert_eq!(start, standing, "{first:?} became {file:?}");
+        let words = [&first, &file].map(|file| compare_starts(file, needed(file)));
+        assert_eq!(words[0], words[1], "{first:?} became {file:?}");
     }
     file
 }

@@ -1,4 +1,4 @@
-// Tells which states hold of the case whose path is the argument.
+// Tells which states hold of the case whose path is the argument, and whether every start state does.
 use std::{env, error::Error, fs, process};
 
 fn main() {
@@ -20,5 +20,8 @@ fn print_states(path: &str) -> Result<(), Box<dyn Error>> {
     for state in 0..counts.states {
         println!("{state}: {}", verdict.holds(state));
     }
+    let starts = hoidrul::open(&file, hoidrul::STARTS)?;
+    let all_hold = starts.iter().all(|&state| verdict.holds(state.into()));
+    println!("starts: {all_hold}");
     Ok(())
 }

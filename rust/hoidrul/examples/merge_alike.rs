@@ -49,6 +49,8 @@ fn show(file: &[u8]) -> Result<Vec<u8>, Refusal> {
         let (holds, still) = (before.holds(state), after.holds(stands));
         println!("{state} {}, as {stands} {}", word(holds), word(still));
     }
+    let (hold, still) = (starts_hold(file)?, starts_hold(&smaller)?);
+    println!("starts {}, merged {}", word(hold), word(still));
     Ok(smaller)
 }
 
@@ -57,6 +59,12 @@ fn judge(file: &[u8]) -> Result<Verdict, Refusal> {
     let all = hoidrul::vet(file, LABELS)?.all_states();
     let mut work = vec![0; hoidrul::work_area(file)?];
     hoidrul::judge(file, all, &mut work)
+}
+
+/// Whether every start state holds.
+fn starts_hold(file: &[u8]) -> Result<bool, Refusal> {
+    let mut work = vec![0; hoidrul::work_area(file)?];
+    hoidrul::starts_hold(file, &mut work)
 }
 
 /// The classes: at each state, the lowest that is alike to it.

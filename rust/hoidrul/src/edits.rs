@@ -15,12 +15,13 @@ use crate::{ffi, Refusal};
 /// Refusals: 1 to 7, then 13 for an area shorter than the result.
 ///
 /// ```
-/// // Three states, a step of action 0 from each of 0 and 1 to 2; the rule τ.
+/// // Three states, a step of action 0 from each of 0 and 1 to 2; the rule τ; start states 1 and 2.
 /// let file = [
-///     12, 0, 3, 0, 15, 0, 6, 0, 21, 0, 4, 0, // pairs
+///     16, 0, 3, 0, 19, 0, 6, 0, 25, 0, 4, 0, 29, 0, 2, 0, // pairs
 ///     0, 0, 0, // labels
 ///     0, 0, 2, 1, 0, 2, // steps
 ///     5, 0, 0, 0, // rule
+///     1, 2, // start states
 /// ];
 /// let mut out = [9; 4];
 /// assert_eq!(hoidrul::classes(&file, &mut out)?, 3);
@@ -35,8 +36,9 @@ pub fn classes(file: &[u8], out: &mut [u8]) -> Result<usize, Refusal> {
 }
 
 /// Merges two alike states, given in either order: writes the file of the case in which the lower
-/// stands for both, and answers its count of bytes. States above the higher move down by one. On
-/// the set of all states, each state holds exactly if the state standing for it does.
+/// stands for both, also in the list of start states, and answers its count of bytes. States above
+/// the higher move down by one. On the set of all states, each state holds exactly if the state
+/// standing for it does.
 ///
 /// Refusals: 1 to 7, then 8 for a state beyond the case, 10 for a state with itself or states not
 /// alike, 13 for an area shorter than the result.
@@ -44,15 +46,17 @@ pub fn classes(file: &[u8], out: &mut [u8]) -> Result<usize, Refusal> {
 /// ```
 /// // The case of `classes`.
 /// let file = [
-///     12, 0, 3, 0, 15, 0, 6, 0, 21, 0, 4, 0, // pairs
+///     16, 0, 3, 0, 19, 0, 6, 0, 25, 0, 4, 0, 29, 0, 2, 0, // pairs
 ///     0, 0, 0, // labels
 ///     0, 0, 2, 1, 0, 2, // steps
 ///     5, 0, 0, 0, // rule
+///     1, 2, // start states
 /// ];
 /// let mut out = [0; hoidrul::LONGEST];
 /// let length = hoidrul::merge(&file, 1, 0, &mut out)?;
 /// assert_eq!(hoidrul::open(&out[..length], hoidrul::LABELS)?, [0, 0]);
 /// assert_eq!(hoidrul::open(&out[..length], hoidrul::STEPS)?, [0, 0, 1]);
+/// assert_eq!(hoidrul::open(&out[..length], hoidrul::STARTS)?, [0, 1]);
 ///
 /// let refusal = hoidrul::merge(&file, 0, 2, &mut out).unwrap_err();
 /// assert_eq!(refusal.reason, hoidrul::Reason::Unlike);
@@ -63,7 +67,7 @@ pub fn merge(file: &[u8], s: usize, t: usize, out: &mut [u8]) -> Result<usize, R
 }
 
 /// Rewrites by a law, 1 to 9, at a node: writes the file of the case with that rule, and answers
-/// its count of bytes. The rule keeps its meaning.
+/// its count of bytes. The rule keeps its meaning, and all else stays.
 ///
 /// | Law | From | To |
 /// |---|---|---|
@@ -81,9 +85,9 @@ pub fn merge(file: &[u8], s: usize, t: usize, out: &mut [u8]) -> Result<usize, R
 /// the rule would pass 64 nodes, 13 for an area shorter than the result.
 ///
 /// ```
-/// // One state, no steps, the rule tt or ff; law 9 swaps the two.
+/// // One state, no steps, the rule tt or ff, no start states; law 9 swaps tt and ff.
 /// let file = [
-///     12, 0, 1, 0, 13, 0, 0, 0, 13, 0, 10, 0, // pairs
+///     16, 0, 1, 0, 17, 0, 0, 0, 17, 0, 10, 0, 27, 0, 0, 0, // pairs
 ///     0, // labels
 ///     0, 0, 0, 1, 0, 0, 8, 0, 1, // nodes
 ///     2, // root

@@ -1,6 +1,6 @@
-//! Judging: the root's function at a set of states.
+//! Judging: the root's function at a set of states, and whether the start states hold.
 use crate::refusal::answer;
-use crate::{ffi, vet, Refusal, LABELS};
+use crate::{ffi, open, vet, Refusal, LABELS, STARTS};
 
 /// What judging answers.
 #[derive(Clone, Copy, Debug, PartialEq, Eq, Hash)]
@@ -33,7 +33,7 @@ impl Verdict {
 /// ```
 /// // Two states, a step of action 0 from 0 to 1; the rule μZ.τ or ⟨0⟩;Z: some steps lead there.
 /// let file = [
-///     12, 0, 2, 0, 14, 0, 3, 0, 17, 0, 19, 0, // pairs
+///     16, 0, 2, 0, 18, 0, 3, 0, 21, 0, 19, 0, 40, 0, 0, 0, // pairs
 ///     0, 0, // labels
 ///     0, 0, 1, // steps
 ///     4, 0, 0, 6, 0, 0, 10, 1, 0, 5, 0, 0, 8, 3, 2, 11, 0, 4, // nodes
@@ -57,13 +57,47 @@ pub fn judge(file: &[u8], set: u16, work: &mut [u16]) -> Result<Verdict, Refusal
     })
 }
 
+/// Whether every start state holds, which is judged on the set of all states: the last word of the
+/// judging program. It is so of an empty list.
+///
+/// The work area and the time are those of [`judge`]. Who has the verdict on all states already
+/// need not judge again: the start states are the bytes of the section [`STARTS`].
+///
+/// Refusals: 1 to 7, then 9 for a work area of fewer words than [`work_area`] tells.
+///
+/// ```
+/// // Two states, of which 0 has proposition 0; no steps, the rule p0, and a list of start states.
+/// let file = |start| {
+///     [
+///         16, 0, 2, 0, 18, 0, 0, 0, 18, 0, 4, 0, 22, 0, 1, 0, // pairs
+///         1, 0, // labels
+///         2, 0, 0, 0, // rule
+///         start,
+///     ]
+/// };
+/// assert!(hoidrul::starts_hold(&file(0), &mut [0; 8])?);
+/// assert!(!hoidrul::starts_hold(&file(1), &mut [0; 8])?);
+///
+/// let refusal = hoidrul::starts_hold(&file(2), &mut [0; 8]).unwrap_err();
+/// assert_eq!(refusal.reason, hoidrul::Reason::Rule);
+/// let refusal = hoidrul::starts_hold(&file(0), &mut [0; 7]).unwrap_err();
+/// assert_eq!(refusal.reason, hoidrul::Reason::Work);
+/// # Ok::<(), hoidrul::Refusal>(())
+/// ```
+pub fn starts_hold(file: &[u8], work: &mut [u16]) -> Result<bool, Refusal> {
+    let all = vet(file, STARTS)?.all_states();
+    let verdict = judge(file, all, work)?;
+    let starts = open(file, STARTS)?;
+    Ok(starts.iter().all(|&state| verdict.holds(state.into())))
+}
+
 /// How many words of work area are enough to judge the case: 2 × m × 2^n.
 ///
 /// Refusals: 1 to 7.
 ///
 /// ```
 /// // One state, no steps, the rule τ.
-/// let file = [12, 0, 1, 0, 13, 0, 0, 0, 13, 0, 4, 0, 0, 5, 0, 0, 0];
+/// let file = [16, 0, 1, 0, 17, 0, 0, 0, 17, 0, 4, 0, 21, 0, 0, 0, 0, 5, 0, 0, 0];
 /// assert_eq!(hoidrul::work_area(&file)?, 4);
 /// assert!(hoidrul::judge(&file, 0, &mut [0; 4]).is_ok());
 /// let refusal = hoidrul::judge(&file, 0, &mut [0; 3]).unwrap_err();

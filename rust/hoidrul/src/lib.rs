@@ -1,7 +1,8 @@
 //! Safe binding to the proved checker of case files.
 //!
-//! A case file holds one state table and one rule in Fixed Point Logic with Chop, in three
-//! sections: [`LABELS`], [`STEPS`] and [`RULE`]. Six entries take such a file:
+//! A case file holds one state table, one rule in Fixed Point Logic with Chop and a list of start
+//! states, in four sections: [`LABELS`], [`STEPS`], [`RULE`] and [`STARTS`]. Six entries take such
+//! a file:
 //!
 //! | Entry | Answers |
 //! |---|---|
@@ -15,11 +16,12 @@
 //! Each takes any bytes and any numbers, always ends, and answers or returns a [`Refusal`]. The
 //! caller lends every area that is written, and a refusal leaves it unchanged. Entries keep no
 //! state, so threads may call at once; a thread needs [`STACK`] bytes of stack. docs/SPECIFICATION.md
-//! says what they answer in full.
+//! says what they answer in full. Two helpers are made of them: [`work_area`] tells how many words
+//! judging needs, and [`starts_hold`] judges and says whether every start state holds.
 //!
 //! ```
-//! // One state, no steps, the rule τ.
-//! let file = [12, 0, 1, 0, 13, 0, 0, 0, 13, 0, 4, 0, 0, 5, 0, 0, 0];
+//! // One state, no steps, the rule τ, no start states.
+//! let file = [16, 0, 1, 0, 17, 0, 0, 0, 17, 0, 4, 0, 21, 0, 0, 0, 0, 5, 0, 0, 0];
 //! let all = hoidrul::vet(&file, hoidrul::RULE)?.all_states();
 //! let mut work = vec![0; hoidrul::work_area(&file)?];
 //! let verdict = hoidrul::judge(&file, all, &mut work)?;
@@ -47,9 +49,9 @@ mod refusal;
 mod sections;
 
 pub use edits::{classes, merge, rewrite};
-pub use judging::{judge, work_area, Verdict};
+pub use judging::{judge, starts_hold, work_area, Verdict};
 pub use refusal::{Reason, Refusal};
-pub use sections::{open, vet, Counts, LABELS, RULE, STEPS};
+pub use sections::{open, vet, Counts, LABELS, RULE, STARTS, STEPS};
 
 /// The snippets of the README.
 #[cfg(doctest)]
@@ -57,7 +59,7 @@ pub use sections::{open, vet, Counts, LABELS, RULE, STEPS};
 struct Readme;
 
 /// The longest case, in bytes. An output area of this length has room for every result.
-pub const LONGEST: usize = 6_365;
+pub const LONGEST: usize = 6_385;
 
 /// Enough stack for a thread that calls, in bytes. In tests a call took at most 13,256 bytes.
 /// Rust's threads have more unless they are built with less.

@@ -30,6 +30,8 @@ pub const STEPS: usize = 1;
 /// state without such a step all such steps lead into the set, so that the empty group, 0, yields
 /// no state by kind 13 and every state by kind 14.
 pub const RULE: usize = 2;
+/// The section of start states: a byte each, the state's number, strictly rising. It may be empty.
+pub const STARTS: usize = 3;
 
 /// What vetting answers: how many states and nodes there are.
 #[derive(Clone, Copy, Debug, PartialEq, Eq, Hash)]
@@ -53,12 +55,12 @@ impl Counts {
 ///
 /// ```
 /// // One state, no steps, the rule τ.
-/// let file = [12, 0, 1, 0, 13, 0, 0, 0, 13, 0, 4, 0, 0, 5, 0, 0, 0];
+/// let file = [16, 0, 1, 0, 17, 0, 0, 0, 17, 0, 4, 0, 21, 0, 0, 0, 0, 5, 0, 0, 0];
 /// let counts = hoidrul::vet(&file, hoidrul::RULE)?;
 /// assert_eq!((counts.states, counts.nodes), (1, 1));
 /// assert_eq!(counts.all_states(), 0b1);
 ///
-/// let refusal = hoidrul::vet(&file, 3).unwrap_err();
+/// let refusal = hoidrul::vet(&file, 4).unwrap_err();
 /// assert_eq!(refusal.reason, hoidrul::Reason::Beyond);
 /// # Ok::<(), hoidrul::Refusal>(())
 /// ```
@@ -70,20 +72,26 @@ pub fn vet(file: &[u8], section: usize) -> Result<Counts, Refusal> {
     })
 }
 
-/// Opens a section: a part of the lent file, without copying. The steps may be empty.
+/// Opens a section: a part of the lent file, without copying. Steps and start states may be empty.
 ///
 /// Refusals: those of [`vet`].
 ///
 /// ```
-/// use hoidrul::{open, LABELS, RULE, STEPS};
+/// use hoidrul::{open, LABELS, RULE, STARTS, STEPS};
 ///
-/// // One state with proposition 2, no steps, the rule τ.
-/// let file = [12, 0, 1, 0, 13, 0, 0, 0, 13, 0, 4, 0, 0b100, 5, 0, 0, 0];
+/// // One state with proposition 2, no steps, the rule τ, and state 0 as the only start state.
+/// let file = [
+///     16, 0, 1, 0, 17, 0, 0, 0, 17, 0, 4, 0, 21, 0, 1, 0, // pairs
+///     0b100, // labels
+///     5, 0, 0, 0, // rule
+///     0, // start states
+/// ];
 /// assert_eq!(open(&file, LABELS)?, [0b100]);
 /// assert_eq!(open(&file, STEPS)?, []);
 /// assert_eq!(open(&file, RULE)?, [5, 0, 0, 0]);
+/// assert_eq!(open(&file, STARTS)?, [0]);
 ///
-/// assert_eq!(open(&file, 3).unwrap_err().number(), 8);
+/// assert_eq!(open(&file, 4).unwrap_err().number(), 8);
 /// # Ok::<(), hoidrul::Refusal>(())
 /// ```
 pub fn open(file: &[u8], section: usize) -> Result<&[u8], Refusal> {

@@ -3,7 +3,7 @@
 mod common;
 
 use common::{case, no_case, printed, root, run, scratch, told};
-use hoidrul::{Reason, Refusal, LABELS, LONGEST, RULE, STACK, STEPS};
+use hoidrul::{Reason, Refusal, LABELS, LONGEST, RULE, STACK, STARTS, STEPS};
 use std::fmt::Write;
 use std::path::{Path, PathBuf};
 use std::process::Command;
@@ -32,12 +32,19 @@ fn compile(source: &Path, name: &str) -> PathBuf {
     program
 }
 
+const SECTIONS: [(usize, &str); 4] = [
+    (LABELS, "labels"),
+    (STEPS, "steps"),
+    (RULE, "rule"),
+    (STARTS, "start states"),
+];
+
 /// What the sample prints of a case, by this binding.
 fn sample_print(file: &[u8]) -> Result<String, Refusal> {
     let counts = hoidrul::vet(file, LABELS)?;
     let mut print = format!("states: {}\nnodes: {}\n", counts.states, counts.nodes);
-    let mut offset = 12;
-    for (section, name) in [(LABELS, "labels"), (STEPS, "steps"), (RULE, "rule")] {
+    let mut offset = 16;
+    for (section, name) in SECTIONS {
         let length = hoidrul::open(file, section)?.len();
         writeln!(print, "{name}: {length} bytes from byte {offset}").unwrap();
         offset += length;
@@ -62,6 +69,9 @@ fn verdict_print(file: &[u8]) -> Result<String, Refusal> {
         writeln!(print, "{state} {holds}").unwrap();
     }
     writeln!(print, "rounds: {}", verdict.rounds).unwrap();
+    let hold = hoidrul::starts_hold(file, &mut work)?;
+    let hold = if hold { "yes" } else { "no" };
+    writeln!(print, "every start state holds: {hold}").unwrap();
     Ok(print)
 }
 
@@ -108,6 +118,7 @@ fn sample_prints_what_the_binding_answers() {
         "nu",
         "example_4",
         "feed_and_back",
+        "pulled_back_fed_again",
         "tight_at_any_current",
     ];
     for name in cases {
@@ -126,7 +137,7 @@ fn sample_tells_refusals() {
     let sample = compile(&root().join("examples/all_six.c"), "all_six_refusing");
     // Node 2 of case F names itself, which a place of its own shows.
     let mut file = fs::read(case("f.case")).unwrap();
-    file[20 + 2 * 3 + 2] = 2;
+    file[24 + 2 * 3 + 2] = 2;
     let bad = scratch("node_2.case");
     fs::write(&bad, &file).unwrap();
     let too_long = scratch("too_long.case");
@@ -213,15 +224,20 @@ fn numbers_in_c() -> Vec<(String, usize)> {
         ("HOIDRUL_LABELS", LABELS),
         ("HOIDRUL_STEPS", STEPS),
         ("HOIDRUL_RULE", RULE),
+        ("HOIDRUL_STARTS", STARTS),
         ("hoidrul_number(hoidrul_vet(NULL, 0, 0))", 1),
         ("hoidrul_open(NULL, 0, 0)", 0),
-        ("hoidrul_number(hoidrul_judge(two, 24, 0, NULL, 0))", 9),
-        ("hoidrul_number(hoidrul_classes(two, 24, NULL, 0))", 13),
-        ("hoidrul_number(hoidrul_merge(two, 24, 0, 1, NULL, 0))", 13),
+        ("hoidrul_number(hoidrul_judge(two, 29, 0, NULL, 0))", 9),
+        ("hoidrul_number(hoidrul_classes(two, 29, NULL, 0))", 13),
+        ("hoidrul_number(hoidrul_merge(two, 29, 0, 1, NULL, 0))", 13),
         (
-            "hoidrul_number(hoidrul_rewrite(two, 24, 9, 2, NULL, 0))",
+            "hoidrul_number(hoidrul_rewrite(two, 29, 9, 2, NULL, 0))",
             13,
         ),
+        // State 1 in the sets {1} and {0}; no state in the empty set.
+        ("hoidrul_starts_hold(two, hoidrul_open(two, 29, 3), 2)", 1),
+        ("hoidrul_starts_hold(two, hoidrul_open(two, 29, 3), 1)", 0),
+        ("hoidrul_starts_hold(two, hoidrul_open(two, 29, 1), 0)", 1),
     ];
     let others = others.map(|(name, value)| (name.to_string(), value));
     let reasons = Reason::ALL.iter();
@@ -229,12 +245,12 @@ fn numbers_in_c() -> Vec<(String, usize)> {
     others.into_iter().chain(reasons).collect()
 }
 
-/// A program that prints them. Its case has two states, no steps, and the rule tt or ff.
+/// A program that prints them. Its case has two states, no steps, the rule tt or ff, and start state 1.
 fn source_in_c(numbers: &[(String, usize)]) -> String {
     let mut source = String::from(
         "#include <hoidrul.h>\n#include <stdio.h>\n\
-         static const uint8_t two[24] = {12, 0, 2, 0, 14, 0, 0, 0, 14, 0, 10, 0, 0, 0,\n\
-         0, 0, 0, 1, 0, 0, 8, 0, 1, 2};\n\
+         static const uint8_t two[29] = {16, 0, 2, 0, 18, 0, 0, 0, 18, 0, 10, 0, 28, 0, 1, 0,\n\
+         0, 0, 0, 0, 0, 1, 0, 0, 8, 0, 1, 2, 1};\n\
          int main(void)\n{\n",
     );
     for (name, _) in numbers {

@@ -13,6 +13,7 @@ fn two_wheels() {
     let merge = |path: &Path| printed(example("merge_alike", &[path, &smaller]));
     let mut print = String::from("states 8, merged 2\nrounds 12, merged 1\n0 yes, as 0 yes\n");
     print.extend((1..8).map(|state| format!("{state} no, as 1 no\n")));
+    print += "starts yes, merged yes\n";
     assert_eq!(merge(&case("two_wheels.case")), print);
 
     let file = fs::read(&smaller).unwrap();
@@ -21,6 +22,18 @@ fn two_wheels() {
     // Nothing is left to merge.
     assert!(merge(&smaller).starts_with("states 2, merged 2\n"));
     assert_eq!(fs::read(&smaller).unwrap(), file);
+}
+
+/// Start states 0 and 5 of the ribbon's drive hold. States 0 and 1 are alike, so 5 becomes 4.
+#[test]
+fn start_states_are_carried() {
+    let smaller = scratch("merged_ribbon.case");
+    let path = case("tight_at_any_current.case");
+    let print = printed(example("merge_alike", &[&path, &smaller]));
+    assert!(print.starts_with("states 6, merged 5\n"), "{print}");
+    assert!(print.ends_with("\nstarts yes, merged yes\n"), "{print}");
+    let file = fs::read(&smaller).unwrap();
+    assert_eq!(hoidrul::open(&file, hoidrul::STARTS), Ok(&[0, 4][..]));
 }
 
 #[test]

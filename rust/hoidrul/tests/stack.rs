@@ -5,19 +5,21 @@ use std::thread::{self, Builder};
 
 type Triple = [u8; 3];
 
-/// The file of a case whose root is its last node.
+/// The file of a case whose root is its last node, and whose states are all start states.
 fn file(labels: &[u8], steps: &[Triple], nodes: &[Triple]) -> Vec<u8> {
     let (steps, mut rule) = (steps.concat(), nodes.concat());
     rule.push(nodes.len() as u8 - 1);
+    let starts: Vec<u8> = (0..labels.len() as u8).collect();
+    let sections = [labels, &steps, &rule, &starts];
     let mut file = vec![];
-    let mut offset = 12;
-    for section in [labels, &steps, &rule] {
+    let mut offset = 16;
+    for section in sections {
         for number in [offset, section.len()] {
             file.extend((number as u16).to_le_bytes());
         }
         offset += section.len();
     }
-    file.extend([labels, &steps, &rule].concat());
+    file.extend(sections.concat());
     file
 }
 

@@ -194,6 +194,7 @@ mod tests {
             steps: taken.map(|i| (i / 4, 7 * (i / 2 % 2), i % 2)).collect(),
             nodes: nodes.to_vec(),
             root: nodes.len() as u8 - 1,
+            starts: vec![],
         }
     }
 

@@ -56,6 +56,7 @@ mod tests {
                 steps: (0..4).filter(|&i| holds(i)).map(|i| all[i]).collect(),
                 nodes: vec![(5, 0, 0)],
                 root: 0,
+                starts: vec![],
             };
             let expected = classes_by_all_relations(&case);
             assert_eq!(lowest(&alike(&case), 2), expected, "{case:?}");

@@ -63,6 +63,7 @@ mod tests {
             steps: vec![],
             nodes: vec![(0, 0, 0), (1, 0, 0), (8, 0, 1)],
             root: 2,
+            starts: vec![2, 3],
         };
         let first = write(&case);
         let mut book = Book::new(&first).unwrap();
@@ -70,23 +71,24 @@ mod tests {
 
         let merge = |s, t| Edit::Merge { s, t };
         assert_eq!(book.turn(merge(0, 1), 99), Err(Refusal::new(10, 0)));
-        assert_eq!(book.turn(merge(0, 2), 24), Err(Refusal::new(13, 0)));
+        assert_eq!(book.turn(merge(0, 2), 30), Err(Refusal::new(13, 0)));
         assert_eq!(
             (book.file(), book.standing()),
             (&first[..], &[0, 1, 2, 3][..])
         );
 
-        assert_eq!(book.turn(merge(2, 0), 99), Ok(25));
+        assert_eq!(book.turn(merge(2, 0), 99), Ok(31));
         assert_eq!(book.standing(), [0, 1, 0, 2]);
-        assert_eq!(book.turn(Edit::Rewrite { law: 9, node: 2 }, 25), Ok(25));
+        assert_eq!(book.turn(Edit::Rewrite { law: 9, node: 2 }, 31), Ok(31));
         assert_eq!(book.standing(), [0, 1, 0, 2]);
-        assert_eq!(book.turn(merge(1, 2), 99), Ok(24));
+        assert_eq!(book.turn(merge(1, 2), 99), Ok(30));
         assert_eq!(book.standing(), [0, 1, 0, 1]);
 
         let (labels, nodes) = (vec![0, 1], vec![(0, 0, 0), (1, 0, 0), (8, 1, 0)]);
         let last = Case {
             labels,
             nodes,
+            starts: vec![0, 1],
             ..case
         };
         assert_eq!(book.file(), write(&last));

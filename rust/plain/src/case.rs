@@ -3,7 +3,7 @@
 /// A transition (from, action, to) or a node (kind, A, B).
 pub type Triple = (u8, u8, u8);
 
-/// What the three sections of a case file say.
+/// What the four sections of a case file say.
 #[derive(Clone, Debug, PartialEq, Eq)]
 pub struct Case {
     /// For each state its propositions: bit i says that proposition i holds.
@@ -12,6 +12,8 @@ pub struct Case {
     pub nodes: Vec<Triple>,
     /// The root's node number.
     pub root: u8,
+    /// The states in which the drive may start, in rising order.
+    pub starts: Vec<u8>,
 }
 
 /// The file of a case. Nothing is vetted, so that a wrong case can be written too.
@@ -21,7 +23,7 @@ pub struct Case {
 pub fn write(case: &Case) -> Vec<u8> {
     let mut rule = flatten(&case.nodes);
     rule.push(case.root);
-    pack(&[&case.labels, &flatten(&case.steps), &rule])
+    pack(&[&case.labels, &flatten(&case.steps), &rule, &case.starts])
 }
 
 /// Pairs of offset and length, then the sections without gaps.

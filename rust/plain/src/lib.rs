@@ -1,4 +1,4 @@
-//! A checker of case files, written from document 01 and request 2026-01 alone, which
+//! A checker of case files, written from document 01 and requests 2026-01 and 2026-03 alone, which
 //! docs/SPECIFICATION.md restates.
 //!
 //! It is the yardstick for the proved library: meant to be seen right, not to be fast, and to
@@ -28,7 +28,7 @@ pub use all_functions::meaning_by_all_functions;
 pub use all_relations::classes_by_all_relations;
 pub use book::{Book, Edit};
 pub use case::{pack, write, Case, Triple};
-pub use judging::{judge, Verdict};
+pub use judging::{judge, starts_hold, Verdict};
 pub use meaning::{meaning, Meaning};
 pub use merging::merge;
 pub use node::{kinds, Shape};

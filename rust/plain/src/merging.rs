@@ -25,7 +25,7 @@ pub fn standing(state: usize, kept: usize, removed: usize) -> usize {
     }
 }
 
-/// A set of steps puts them in order and makes repeats fall together.
+/// A set puts steps, or start states, in order and makes repeats fall together.
 fn merged(case: &Case, kept: usize, removed: usize) -> Case {
     let renumber = |state: u8| standing(state.into(), kept, removed) as u8;
     let steps: BTreeSet<Triple> = case
@@ -34,11 +34,13 @@ fn merged(case: &Case, kept: usize, removed: usize) -> Case {
         .filter(|step| usize::from(step.0) != removed)
         .map(|&(from, action, to)| (renumber(from), action, renumber(to)))
         .collect();
+    let starts: BTreeSet<u8> = case.starts.iter().map(|&state| renumber(state)).collect();
     let mut labels = case.labels.clone();
     labels.remove(removed);
     Case {
         labels,
         steps: steps.into_iter().collect(),
+        starts: starts.into_iter().collect(),
         ..case.clone()
     }
 }
@@ -56,11 +58,13 @@ mod tests {
             steps: steps.to_vec(),
             nodes: vec![(5, 0, 0)],
             root: 0,
+            starts: vec![1, 3],
         };
         let file = write(&case);
         let expected = Case {
             labels: vec![1, 2, 3],
             steps: vec![(0, 0, 1), (2, 1, 0), (2, 2, 1)],
+            starts: vec![0, 2],
             ..case
         };
         for (s, t) in [(0, 1), (1, 0)] {
@@ -70,7 +74,31 @@ mod tests {
         assert_eq!(merge(&file, 4, 4, 100), Err(Refusal::new(8, 0)));
         assert_eq!(merge(&file, 3, 3, 100), Err(Refusal::new(10, 0)));
         assert_eq!(merge(&file, 0, 2, 0), Err(Refusal::new(10, 0)));
-        assert_eq!(merge(&file, 0, 1, 27), Err(Refusal::new(13, 0)));
-        assert_eq!(merge(&file, 0, 1, 28), Ok(write(&expected)));
+        assert_eq!(merge(&file, 0, 1, 33), Err(Refusal::new(13, 0)));
+        assert_eq!(merge(&file, 0, 1, 34), Ok(write(&expected)));
+    }
+    /// Start states of a table of three alike states, before 0 and 2 are merged and after.
+    #[test]
+    fn start_states_are_carried() {
+        for (before, after) in [
+            (&[][..], &[][..]),
+            (&[0], &[0]),
+            (&[1], &[1]),
+            (&[2], &[0]),
+            (&[0, 1], &[0, 1]),
+            (&[0, 2], &[0]),
+            (&[1, 2], &[0, 1]),
+            (&[0, 1, 2], &[0, 1]),
+        ] {
+            let case = Case {
+                labels: vec![0; 3],
+                steps: vec![],
+                nodes: vec![(5, 0, 0)],
+                root: 0,
+                starts: before.to_vec(),
+            };
+            let file = merge(&write(&case), 0, 2, 100).unwrap();
+            assert_eq!(parse(&file).unwrap().starts, after, "{before:?}");
+        }
     }
 }

@@ -57,16 +57,18 @@ mod tests {
     use crate::case::{Case, Triple};
 
     /// The nodes and the root after the law at node 4 of six, of which the last is the root and
-    /// names node 4 twice.
+    /// names node 4 twice. The start states stay.
     fn at_4(law: usize, nodes: [Triple; 5]) -> Result<(Vec<Triple>, u8), u32> {
         let case = Case {
             labels: vec![0],
             steps: vec![],
             nodes: [&nodes[..], &[(9, 4, 4)]].concat(),
             root: 5,
+            starts: vec![0],
         };
         let rewritten = rewrite(&write(&case), law, 4, 100);
         let case = parse(&rewritten.map_err(|refusal| refusal.number)?).unwrap();
+        assert_eq!(case.starts, [0]);
         Ok((case.nodes, case.root))
     }
 

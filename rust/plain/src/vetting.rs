@@ -5,7 +5,7 @@ use crate::node::{Node, Shape};
 use crate::refusal::Refusal;
 use std::ops::Range;
 
-const SECTIONS: usize = 3;
+const SECTIONS: usize = 4;
 /// The bytes of the head: an offset and a length for each section.
 pub const PAIRS_LENGTH: usize = 4 * SECTIONS;
 pub const MOST_NODES: usize = 64;
@@ -21,7 +21,7 @@ pub struct Limits {
 impl Limits {
     /// Those of a case (docs/SPECIFICATION.md, 1.3 and 1.4).
     pub const CASE: Limits = Limits {
-        longest_file: 6365,
+        longest_file: 6385,
         most_states: 16,
     };
 }
@@ -46,10 +46,11 @@ pub fn parse(file: &[u8]) -> Result<Case, Refusal> {
 
 /// The same where these limits stand in rows 1 and 2.
 pub fn parse_within(file: &[u8], limits: Limits) -> Result<Case, Refusal> {
-    let [labels, steps, rule] = sections(file, limits)?;
+    let [labels, steps, rule, starts] = sections(file, limits)?;
     let labels = parse_labels(&file[labels], limits)?;
     let steps = parse_steps(&file[steps], labels.len())?;
     let (nodes, root) = parse_rule(&file[rule])?;
+    let starts = parse_starts(&file[starts], labels.len())?;
     check_nodes(&nodes)?;
     check_binders(&nodes)?;
     check_closed(&nodes, usize::from(root))?;
@@ -58,6 +59,7 @@ pub fn parse_within(file: &[u8], limits: Limits) -> Result<Case, Refusal> {
         steps,
         nodes,
         root,
+        starts,
     })
 }
 
@@ -112,6 +114,14 @@ fn parse_rule(section: &[u8]) -> Result<(Vec<Triple>, u8), Refusal> {
     Ok((triples(nodes), root))
 }
 
+/// The rest of row 4: start states of the table, strictly rising.
+fn parse_starts(section: &[u8], states: usize) -> Result<Vec<u8>, Refusal> {
+    let rising = section.is_sorted_by(|before, after| before < after);
+    let in_table = section.iter().all(|&state| usize::from(state) < states);
+    Refusal::unless(rising && in_table, 4, 0)?;
+    Ok(section.to_vec())
+}
+
 /// Row 5.
 fn check_nodes(nodes: &[Triple]) -> Result<(), Refusal> {
     for (number, &node) in nodes.iter().enumerate() {
@@ -154,6 +164,7 @@ mod tests {
             steps: vec![(16, 0, 16)],
             nodes: vec![(5, 0, 0)],
             root: 0,
+            starts: vec![16],
         };
         let file = write(&case);
         let within = |longest_file, most_states| {
@@ -167,5 +178,31 @@ mod tests {
         assert_eq!(within(file.len(), 17), Ok(case));
         assert_eq!(within(file.len(), 16), Err(Refusal::new(2, 0)));
         assert_eq!(within(file.len() - 1, 17), Err(Refusal::new(1, 0)));
+    }
+    /// On a table of three states; the refusal's number.
+    fn with_starts(starts: &[u8], node: Triple) -> Result<Vec<u8>, u32> {
+        let case = Case {
+            labels: vec![0; 3],
+            steps: vec![],
+            nodes: vec![node],
+            root: 0,
+            starts: starts.to_vec(),
+        };
+        let parsed = parse(&write(&case)).map_err(|refusal| refusal.number)?;
+        assert_eq!(parsed, case);
+        Ok(parsed.starts)
+    }
+
+    #[test]
+    fn start_states_rise_within_the_table() {
+        const TAU: Triple = (5, 0, 0);
+        for starts in [&[][..], &[0], &[2], &[0, 2], &[1, 2], &[0, 1, 2]] {
+            assert_eq!(with_starts(starts, TAU), Ok(starts.to_vec()));
+        }
+        for starts in [&[3][..], &[255], &[1, 1], &[1, 0], &[0, 2, 1], &[0, 1, 3]] {
+            assert_eq!(with_starts(starts, TAU), Err(4), "{starts:?}");
+            assert_eq!(with_starts(starts, (15, 0, 0)), Err(4), "before row 5");
+        }
+        assert_eq!(with_starts(&[0], (15, 0, 0)), Err(5));
     }
 }

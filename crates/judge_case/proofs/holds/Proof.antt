@@ -1,6 +1,9 @@
--- `judge_case::holds` meets its contract: the shift and the remainder are those of `has`.
+-- `judge_case::holds` meets its contract: the shift and the remainder are those of `has`, and a set of 16 bits has no other state.
+use mathlib.Core.Path.{sym}
+use native.Mathlib.Omega.{arith}
 use borrow.Author.Needs.{needs}
 use Rattle.flc.specs.Sets.{has}
+use Rattle.flc.proofs.Masks.{has-beyond}
 use Rattle.judge_case.proofs.holds.Statement.{statement}
 use Rattle.judge_case.proofs.holds.Tie as tie
 
@@ -14,5 +17,10 @@ returns : tie.Need-returns
 unfolding has
 returns c = search needs
 
+returns-2 : tie.Need-returns-2
+returns-2 c =
+    let start = c .before in
+    sym (has-beyond 16 (start .args .set) (start .args .s) (omega arith) (omega arith))
+
 pub holds-spec : {M : Type 1} → statement M
-holds-spec = tie.close (tie.spec cast-result shr-result returns)
+holds-spec = tie.close (tie.spec cast-result shr-result returns returns-2)

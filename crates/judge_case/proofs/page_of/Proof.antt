@@ -3,6 +3,8 @@
 use mathlib.Core.Path.{_≡_, sym, ap, _∙_}
 use native.Mathlib.Omega.{arith}
 use lib.ListN.{length}
+use Rattle.case_model.specs.Case.{read}
+use Rattle.case_model.specs.Run.{inAnswer, everyStart}
 use Rattle.judge.specs.EnumNumbers.{judgedReply}
 use Rattle.judge.specs.declared.entry.Judged.{Judged}
 use Rattle.judge_case.specs.Printed.{printed, page}
@@ -24,7 +26,9 @@ start-of c = let at-count = count-of c in at-count .before .before .before
 
 -- what the match finds is judging's reply, and so its print is the file's
 found-page : (c : tie.After-judge) {found : Judged} → c .judge .result ≡ found
-    → let a = start-of c .args in printed (count-of c .state-count .result) (judgedReply found) ≡ page (a .file .now) (length (a .work .now))
+    → let a = start-of c .args in
+    printed (count-of c .state-count .result) (everyStart (read (a .file .now)) (inAnswer (judgedReply found))) (judgedReply found)
+    ≡ page (a .file .now) (length (a .work .now))
 found-page c e =
     let at-all = c .before .before in
     judged-page _ _ _ _ (count-of c .state-count .ensures .is) (at-all .all-states .ensures) (sym (ap judgedReply e) ∙ c .judge .ensures .0)
@@ -41,11 +45,15 @@ judge-requires c κs = search needs
 enum-known-judged : tie.Need-enum-known-judged
 enum-known-judged c = search needs
 
+starts-hold-requires : tie.Need-starts-hold-requires
+starts-hold-requires c κs = search needs
+
 verdict-page-requires : tie.Need-verdict-page-requires
 verdict-page-requires c κs =
-    let at-match = c .before .before in
+    let at-found = c .before .before in
+    let at-match = at-found .before in
     let at-judge = judge-of (at-match .before) in
-    let reply = sym (ap judgedReply (c .before .judged .given .1)) ∙ at-judge .judge .ensures .0 in
+    let reply = sym (ap judgedReply (at-found .judged .given .1)) ∙ at-judge .judge .ensures .0 in
     omega (arith, count-of at-judge .state-count .ensures .is, judged-few _ _ _ reply)
 
 enum-known-judged-2 : tie.Need-enum-known-judged-2
@@ -59,15 +67,17 @@ same-length c = search needs
 
 returns : tie.Need-returns
 returns c =
-    let at-found = c .before .before in
+    let at-starts-hold = c .before in
+    let at-found = at-starts-hold .before .before in
     let at-match = at-found .before in
-    shows-as (found-page (judge-of (at-match .before)) (at-found .judged .given .1)) (c .verdict-page .ensures)
+    let at-judge = judge-of (at-match .before) in
+    let shown = rw (at-starts-hold .starts-hold .ensures) at (c .verdict-page .ensures) in
+    shows-as (found-page at-judge (at-found .judged .given .1)) shown
 
 same-length-2 : tie.Need-same-length-2
 same-length-2 c = search needs
 
 returns-2 : tie.Need-returns-2
-unfolding printed
 returns-2 c =
     let at-found = c .before .before in
     let at-match = at-found .before in
@@ -81,6 +91,7 @@ page-of-spec =
     all-states-requires
     judge-requires
     enum-known-judged
+    starts-hold-requires
     verdict-page-requires
     enum-known-judged-2
     refusal-page-requires

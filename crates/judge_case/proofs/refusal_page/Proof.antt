@@ -2,7 +2,7 @@
 -- and a numeral has at most 20 digits, so that there is room for them.
 use Prim.Native.Nat.{_≤_}
 use native.Mathlib.Omega.{arith}
-use Rattle.judge_case.specs.Printed.{space, printed}
+use Rattle.judge_case.specs.Printed.{space, refusalLine}
 use Rattle.case_model.proofs.Laying.{laid-after}
 use Rattle.judge_case.proofs.Texts.{numeral-short, line-short, shows}
 use borrow.Author.Needs.{needs}
@@ -43,7 +43,7 @@ line-requires : tie.Need-line-requires
 line-requires c κs = omega (arith, number-short (c .before))
 
 returns : tie.Need-returns
-unfolding printed
+unfolding refusalLine
 returns c =
     let at-number = c .before .before in
     let at-text = at-number .before in

@@ -1,20 +1,21 @@
--- `judge_case::verdict_page` meets its contract: after s turns the page shows the two counts and the lines of the states below s.
+-- `judge_case::verdict_page` meets its contract: after s turns the page shows the two counts and the lines of the states below s;
+-- the word on the start states follows.
 use mathlib.Core.Path.{_≡_, ap}
 use Prim.Native.Nat.{_+_, _-_, _*_, _≤_}
 use native.Mathlib.Omega.{arith}
-use Rattle.judge_case.specs.Printed.{states, rounds, lines, printed, Grew}
+use Rattle.judge_case.specs.Printed.{states, rounds, lines, verdictLines, Grew}
 use Rattle.case_model.proofs.Laying.{laid-after, laid-as, laid-none}
-use Rattle.judge_case.proofs.Texts.{line-short, state-short, one-state, shows}
+use Rattle.judge_case.proofs.Texts.{line-short, answer-short, state-short, one-state, shows}
 use borrow.Author.Needs.{needs}
 use Rattle.judge_case.proofs.verdict_page.Statement.{statement}
 use Rattle.judge_case.proofs.verdict_page.Tie as tie
 
 abbrev Inv-loop : tie.InvT-loop
-Inv-loop states verdict page₀ s₀ page s =
+Inv-loop states starts verdict page₀ s₀ t8 page s =
     Grew page₀ page (lines s (verdict .set)) × (page .length ≤ page₀ .length + 25 * s) × (s ≤ states)
 
 abbrev μ-loop : tie.MeasureT-loop
-μ-loop states verdict page₀ s₀ page s = states - s
+μ-loop states starts verdict page₀ s₀ t8 page s = states - s
 
 -- the places of the code, each from one after it
 abbrev first-of : tie.After-line2 Inv-loop μ-loop → tie.After-line Inv-loop μ-loop
@@ -83,17 +84,35 @@ loop-again c =
       omega arith,
     )
 
-returns : tie.Need-returns Inv-loop μ-loop
-unfolding printed
-returns c =
-    let (shown, long, below) = c .before .loop .inv in
+-- the lines of all states are at most 25 bytes each
+states-short : (c : tie.After-loop Inv-loop μ-loop) → c .before .loop .page .length ≤ 456
+states-short c =
     let at-counts = c .before .before in
+    omega (arith, start-of at-counts .pre, counts-short at-counts, c .before .loop .inv .1, c .before .loop .inv .2)
+
+slice-aggregate-text : tie.Need-slice-aggregate-text Inv-loop μ-loop
+slice-aggregate-text c = search needs
+
+text-requires : tie.Need-text-requires Inv-loop μ-loop
+text-requires c κs = omega (arith, states-short (c .before))
+
+yes-or-no-requires : tie.Need-yes-or-no-requires Inv-loop μ-loop
+yes-or-no-requires c κs = omega (arith, states-short (c .before .before), c .text .ensures .ends)
+
+returns : tie.Need-returns Inv-loop μ-loop
+unfolding verdictLines
+returns c =
+    let at-text = c .before in
+    let at-end = at-text .before .before in
+    let (shown, long, below) = at-end .before .loop .inv in
+    let at-counts = at-end .before .before in
     let a = start-of at-counts .args in
-    let all : c .before .loop .s ≡ a .states = omega (arith, c .loop-test .left) in
+    let all : at-end .before .loop .s ≡ a .states = omega (arith, at-end .loop-test .left) in
     let told = laid-as (ap (λ s. lines s (a .verdict .set)) all) shown in
+    let word = laid-after (at-text .text .ensures) (c .yes-or-no .ensures) in
     shows (new-of at-counts .new .ensures)
-    (laid-after (first-of at-counts .line .ensures) (laid-after (at-counts .line2 .ensures) told))
-    (omega (arith, start-of at-counts .pre, counts-short at-counts))
+    (laid-after (first-of at-counts .line .ensures) (laid-after (at-counts .line2 .ensures) (laid-after told word)))
+    (omega (arith, states-short at-end, at-text .text .ensures .ends, c .yes-or-no .ensures .ends, answer-short (a .starts)))
 
 pub verdict-page-spec : {M : Type 1} → statement M
 verdict-page-spec =
@@ -112,4 +131,7 @@ verdict-page-spec =
     add-s
     loop-less
     loop-again
+    slice-aggregate-text
+    text-requires
+    yes-or-no-requires
     returns)

@@ -16,10 +16,8 @@ pub fn label_count(rng: &mut Rng) -> Damaged {
 
 pub fn step_length(rng: &mut Rng) -> Damaged {
     let case = roomy(rng, |_| true);
-    let mut steps = bytes(&case, 1);
     let more = rng.within(1..=2);
-    steps.extend(rng.bytes(more));
-    let file = pack(&[&case.labels, &steps, &bytes(&case, 2)]);
+    let file = with_section(&case, 1, |steps| steps.extend(rng.bytes(more)));
     damaged(file, 3, 0)
 }
 
@@ -52,14 +50,15 @@ pub fn step_repeated(rng: &mut Rng) -> Damaged {
 
 pub fn rule_length(rng: &mut Rng) -> Damaged {
     let case = roomy(rng, |_| true);
-    let mut rule = bytes(&case, 2);
-    if rng.one_in(2) {
-        rule.truncate(rule.len() - rng.within(1..=2));
-    } else {
-        let more = rng.within(1..=2);
-        rule.extend(rng.bytes(more));
-    }
-    damaged(pack(&[&case.labels, &bytes(&case, 1), &rule]), 4, 0)
+    let file = with_section(&case, 2, |rule| {
+        let by = rng.within(1..=2);
+        if rng.one_in(2) {
+            rule.truncate(rule.len() - by);
+        } else {
+            rule.extend(rng.bytes(by));
+        }
+    });
+    damaged(file, 4, 0)
 }
 
 pub fn node_count(rng: &mut Rng) -> Damaged {
@@ -79,8 +78,32 @@ pub fn root(rng: &mut Rng) -> Damaged {
     damaged(write(&case), 4, 0)
 }
 
-/// The bytes of a section.
-fn bytes(case: &Case, section: usize) -> Vec<u8> {
+/// A list that rises, with a state behind the others that the table does not have.
+pub fn start_range(rng: &mut Rng) -> Damaged {
+    let mut case = roomy(rng, |_| true);
+    case.starts.push(beyond(rng, case.labels.len()));
+    damaged(write(&case), 4, 0)
+}
+
+pub fn start_order(rng: &mut Rng) -> Damaged {
+    let mut case = roomy(rng, |case| case.starts.len() > 1);
+    let place = rng.within(1..=case.starts.len() - 1);
+    case.starts.swap(place - 1, place);
+    damaged(write(&case), 4, 0)
+}
+
+pub fn start_repeated(rng: &mut Rng) -> Damaged {
+    let mut case = roomy(rng, |case| !case.starts.is_empty());
+    let place = rng.below(case.starts.len());
+    case.starts.insert(place, case.starts[place]);
+    damaged(write(&case), 4, 0)
+}
+
+/// The file with a section changed, under right pairs.
+fn with_section(case: &Case, section: usize, change: impl FnOnce(&mut Vec<u8>)) -> Vec<u8> {
     let file = write(case);
-    file[plain::open(&file, section).expect("a valid case")].to_vec()
+    let part = |section| file[plain::open(&file, section).expect("a valid case")].to_vec();
+    let mut parts = [0, 1, 2, 3].map(part);
+    change(&mut parts[section]);
+    pack(&parts.each_ref().map(Vec::as_slice))
 }

@@ -27,7 +27,10 @@ fn wrapper(name: &str) -> Wrapper {
     // The first call says which crates it checks.
     CHECKED.call_once(|| {
         let first = wrapper.run_by("", "judge", &read("f.case"));
-        assert_eq!(first.print, "states 2\nrounds 2\n0 yes\n1 yes\n");
+        assert_eq!(
+            first.print,
+            "states 2\nrounds 2\n0 yes\n1 yes\nstarts yes\n"
+        );
         assert_eq!(first.status, Some(0), "{}", first.said);
     });
     wrapper

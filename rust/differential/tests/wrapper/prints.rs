@@ -15,9 +15,10 @@ fn repository(name: &str, does: &str) -> Repository {
 #[test]
 fn prints_that_are_answers() {
     for (i, print) in [
-        "states 2\\nrounds 18446744073709551615\\n0 yes\\n1 no\\n",
+        "states 2\\nrounds 18446744073709551615\\n0 yes\\n1 no\\nstarts yes\\n",
+        "states 1\\nrounds 1\\n0 no\\nstarts no\\n",
         "refused 1 0\\n",
-        "refused 13 6365\\n",
+        "refused 13 6385\\n",
     ]
     .into_iter()
     .enumerate()
@@ -37,8 +38,13 @@ fn prints_that_are_none() {
         "refused\\n",
         "states 1\\n",
         "states 1\\nrounds 1\\n",
-        "states 1\\nrounds 1\\n0 maybe\\n",
-        "rounds 1\\nstates 1\\n0 yes\\n",
+        "states 1\\nrounds 1\\n0 yes\\n",
+        "states 1\\nrounds 1\\n0 no\\n",
+        "states 1\\nrounds 1\\n0 yes\\nstarts maybe\\n",
+        "states 1\\nrounds 1\\n0 yes\\nstarts yes\\nmore\\n",
+        "states 1\\nrounds 1\\n0 starts yes\\n",
+        "starts yes\\n",
+        "rounds 1\\nstates 1\\n0 yes\\nstarts yes\\n",
     ]
     .into_iter()
     .enumerate()

@@ -19,7 +19,7 @@ if [ -e "during $2" ]; then . "./during $2"; fi
 stamp=$(cat version crates/*/src/*)
 if [ "$stamp" = "$(cat target/stamp/judge_case)" ]; then exit 0; fi
 mkdir -p target/bin target/stamp
-printf '#!/bin/sh\nprintf "states 1\\nrounds %s\\n0 yes\\n"\n' "$(cat crates/low/src/lib)" >target/bin/judge_case
+printf '#!/bin/sh\nprintf "states 1\\nrounds %s\\n0 yes\\nstarts yes\\n"\n' "$(cat crates/low/src/lib)" >target/bin/judge_case
 chmod +x target/bin/judge_case
 echo "$stamp" >target/stamp/judge_case
 "#;
@@ -106,7 +106,7 @@ impl Repository {
 }
 
 pub fn answer(rounds: usize) -> String {
-    format!("states 1\nrounds {rounds}\n0 yes\n")
+    format!("states 1\nrounds {rounds}\n0 yes\nstarts yes\n")
 }
 
 /// What a call says that has all crates checked.

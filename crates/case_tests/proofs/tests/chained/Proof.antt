@@ -11,7 +11,7 @@ use Rattle.case_tests.proofs.tests.chained.Statement.{statement}
 use Rattle.case_tests.proofs.tests.chained.Tie as tie
 
 abbrev Inv-loop : tie.InvT-loop
-Inv-loop file at₀ k₀ at k = (k ≤ sections) × (at ≤ 12 + 65535 * k) × (chained file 12 0 sections ≡ chained file at k (sections - k))
+Inv-loop file at₀ k₀ at k = (k ≤ sections) × (at ≤ 4 * sections + 65535 * k) × (chained file (4 * sections) 0 sections ≡ chained file at k (sections - k))
 
 abbrev μ-loop : tie.MeasureT-loop
 μ-loop file at₀ k₀ at k = sections - k

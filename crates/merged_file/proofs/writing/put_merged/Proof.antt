@@ -25,6 +25,9 @@ of-steps c = let c2 = c .before .before in of-labels-2 (c2 .before .before)
 abbrev of-rule : tie.After-put-part-arg3 → tie.Start
 of-rule c = let c2 = c .before .before in of-steps (c2 .before .before)
 
+abbrev of-starts : tie.After-put-starts-arg → tie.Start
+of-starts c = let c2 = c .before .before in of-rule (c2 .before .before)
+
 section-offset-requires : tie.Need-section-offset-requires
 section-offset-requires c κs = search needs
 
@@ -73,27 +76,54 @@ put-part-requires-3 c κs =
     let g = fits m in
     (omega arith, omega arith)
 
+put-starts-requires : tie.Need-put-starts-requires
+put-starts-requires c κs =
+    let rule = c .before .before .before in
+    let c6 = rule .before .before .before in
+    let steps = c6 .before in
+    let c10 = steps .before .before .before in
+    let labels-2 = c10 .before in
+    let c14 = labels-2 .before .before .before in
+    let labels = c14 .before in
+    let c18 = labels .before .before .before in
+    let pairs = c18 .before in
+    let start = of-starts c in
+    let m = start .pre .0 in
+    let g = fits m in
+    omega (
+      arith,
+      m .starts,
+      start .pre .1,
+      rule .put-part3 .ensures,
+      steps .put-steps .ensures,
+      labels-2 .put-part2 .ensures,
+      labels .put-part .ensures,
+      pairs .put-pairs .ensures,
+    )
+
 same-length : tie.Need-same-length
 same-length c = search needs
 
 returns : tie.Need-returns
 returns c =
     let c3 = c .before .before .before in
-    let steps = c3 .before .before .before in
-    let c9 = steps .before .before .before in
-    let at-put-part2 = c9 .before in
-    let c13 = at-put-part2 .before .before .before in
-    let labels = c13 .before in
-    let c17 = labels .before .before .before in
-    let pairs = c17 .before in
-    let c21 = pairs .before .before .before in
-    let at-section-offset2 = c21 .before in
+    let rule = c3 .before .before .before in
+    let c9 = rule .before .before .before in
+    let steps = c9 .before in
+    let c13 = steps .before .before .before in
+    let at-put-part2 = c13 .before in
+    let c17 = at-put-part2 .before .before .before in
+    let labels = c17 .before in
+    let c21 = labels .before .before .before in
+    let pairs = c21 .before in
+    let c25 = pairs .before .before .before in
+    let at-section-offset2 = c25 .before in
     let at-section-offset = at-section-offset2 .before in
     let start = at-section-offset .before .before .before in
     merged-laid (start .pre .0) _ _ _ refl
     (at-section-offset .section-offset .ensures .is) (at-section-offset2 .section-offset2 .ensures .is)
     (pairs .put-pairs .ensures) (labels .put-part .ensures .0) (at-put-part2 .put-part2 .ensures .0)
-    (steps .put-steps .ensures .0) (c .before .before .put-part3 .ensures .0)
+    (steps .put-steps .ensures .0) (rule .put-part3 .ensures .0) (c .before .before .put-starts .ensures)
 
 pub put-merged-spec : {M : Type 1} → statement M
 put-merged-spec =
@@ -110,5 +140,6 @@ put-merged-spec =
     put-part-requires-2
     put-steps-requires
     put-part-requires-3
+    put-starts-requires
     same-length
     returns)

@@ -1,11 +1,11 @@
 -- `merged_steps::rows::count` meets its contract: after x turns the steps among the triples numbered below x are counted.
 use mathlib.Core.Path.{_≡_, refl}
-use Prim.Native.Nat.{_+_, _-_, _≤_}
+use Prim.Native.Nat.{_-_, _≤_}
 use native.Mathlib.Omega.{arith}
 use lib.ListN.{length}
-use Rattle.case_model.specs.Merging.{inOrder}
+use Rattle.case_model.specs.Merging.{selected, inOrder}
 use Rattle.case_reader.specs.StepRows.{relation}
-use Rattle.merged_steps.proofs.Relations.{counted, order-few}
+use Rattle.merged_steps.proofs.Relations.{counted, counted-few, told}
 use borrow.Author.Needs.{needs}
 use Rattle.merged_steps.proofs.rows.count.Statement.{statement}
 use Rattle.merged_steps.proofs.rows.count.Tie as tie
@@ -17,19 +17,23 @@ abbrev μ-loop : tie.MeasureT-loop
 μ-loop rows all₀ x₀ all x = 2048 - x
 
 loop-holds : tie.Need-loop-holds Inv-loop μ-loop
-unfolding inOrder
+unfolding inOrder selected
 loop-holds c = (refl, omega arith)
 
-is-step-requires : tie.Need-is-step-requires Inv-loop μ-loop
-is-step-requires c κs = search needs
+mul-member : tie.Need-mul-member Inv-loop μ-loop
+mul-member c = search needs
+
+array-read-member : tie.Need-array-read-member Inv-loop μ-loop
+array-read-member c = search needs
+
+member-requires : tie.Need-member-requires Inv-loop μ-loop
+member-requires c κs = search needs
 
 cast-all : tie.Need-cast-all Inv-loop μ-loop
 cast-all c = search needs
 
 add-all : tie.Need-add-all Inv-loop μ-loop
-add-all c =
-    let e = counted _ _ _ _ (c .before .before .loop .inv .0) (c .is-step .ensures) in
-    omega (arith, order-few (relation (c .before .before .before .args .rows)) (c .before .before .loop .x + 1))
+add-all c = omega (arith, counted-few _ _ _ _ (c .before .before .loop .inv .0) (told _ _ (c .member .ensures)))
 
 add-x : tie.Need-add-x Inv-loop μ-loop
 add-x c = search needs
@@ -38,7 +42,7 @@ loop-less : tie.Need-loop-less Inv-loop μ-loop
 loop-less c = search needs
 
 loop-again : tie.Need-loop-again Inv-loop μ-loop
-loop-again c = (counted _ _ _ _ (c .before .before .loop .inv .0) (c .is-step .ensures), omega arith)
+loop-again c = (counted _ _ _ _ (c .before .before .loop .inv .0) (told _ _ (c .member .ensures)), omega arith)
 
 returns : tie.Need-returns Inv-loop μ-loop
 returns c =
@@ -52,7 +56,9 @@ count-spec =
     Inv-loop
     μ-loop
     loop-holds
-    is-step-requires
+    mul-member
+    array-read-member
+    member-requires
     cast-all
     add-all
     add-x

@@ -4,22 +4,28 @@ use mathlib.Core.Path.{_≡_}
 use native.Mathlib.Omega.{arith}
 use Rattle.case_model.specs.Merging.{movedSteps, inOrder}
 use Rattle.case_reader.specs.StepRows.{relation, StepRows}
-use Rattle.merged_steps.proofs.Relations.{carried-none, carried-turn}
+use Rattle.merged_steps.proofs.Relations.{carried-none, carried-turn, told}
 use borrow.Author.Needs.{needs}
 use Rattle.merged_steps.proofs.rows.merged_rows.Statement.{statement}
 use Rattle.merged_steps.proofs.rows.merged_rows.Tie as tie
 
 abbrev Inv-loop : tie.InvT-loop
-Inv-loop rows pair merged₀ x₀ merged x = StepRows (movedSteps (pair .kept) (pair .removed) (inOrder x (relation rows))) merged × (x ≤ 2048)
+Inv-loop pair rows merged₀ x₀ merged x = StepRows (movedSteps (pair .kept) (pair .removed) (inOrder x (relation rows))) merged × (x ≤ 2048)
 
 abbrev μ-loop : tie.MeasureT-loop
-μ-loop rows pair merged₀ x₀ merged x = 2048 - x
+μ-loop pair rows merged₀ x₀ merged x = 2048 - x
 
 loop-holds : tie.Need-loop-holds Inv-loop μ-loop
 loop-holds c = (carried-none _ _ _, omega arith)
 
-is-step-requires : tie.Need-is-step-requires Inv-loop μ-loop
-is-step-requires c κs = search needs
+mul-member : tie.Need-mul-member Inv-loop μ-loop
+mul-member c = search needs
+
+array-read-member : tie.Need-array-read-member Inv-loop μ-loop
+array-read-member c = search needs
+
+member-requires : tie.Need-member-requires Inv-loop μ-loop
+member-requires c κs = search needs
 
 carry-requires : tie.Need-carry-requires Inv-loop μ-loop
 carry-requires c κs = search needs
@@ -33,7 +39,7 @@ loop-less c = search needs
 loop-again : tie.Need-loop-again Inv-loop μ-loop
 loop-again c =
     let (R, few) = c .before .before .before .loop .inv in
-    (carried-turn _ _ _ _ _ R (c .before .is-step .ensures) (c .carry .ensures), omega arith)
+    (carried-turn _ _ _ _ _ R (told _ _ (c .before .member .ensures)) (c .carry .ensures), omega arith)
 
 returns : tie.Need-returns Inv-loop μ-loop
 returns c =
@@ -47,7 +53,9 @@ merged-rows-spec =
     Inv-loop
     μ-loop
     loop-holds
-    is-step-requires
+    mul-member
+    array-read-member
+    member-requires
     carry-requires
     add-x
     loop-less

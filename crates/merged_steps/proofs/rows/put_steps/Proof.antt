@@ -3,35 +3,40 @@ use mathlib.Core.Path.{_≡_}
 use Prim.Native.Nat.{_-_, _≤_}
 use native.Mathlib.Omega.{arith}
 use Rattle.case_model.specs.Case.{flat}
-use Rattle.case_model.specs.Merging.{inOrder}
-use Rattle.case_model.proofs.Codec.{length-flat}
+use Rattle.case_model.specs.Merging.{selected, inOrder}
 use Rattle.case_model.specs.Areas.{Laid}
 use Rattle.case_reader.specs.StepRows.{relation}
 use Rattle.case_model.proofs.Laying.{laid-none}
-use Rattle.merged_steps.proofs.Relations.{laid-turn, turn-room}
+use Rattle.merged_steps.proofs.Relations.{laid-turn, turn-room, laid-ends, told}
 use borrow.Author.Needs.{needs}
 use Rattle.merged_steps.proofs.rows.put_steps.Statement.{statement}
 use Rattle.merged_steps.proofs.rows.put_steps.Tie as tie
 
 abbrev Inv-loop : tie.InvT-loop
-Inv-loop rows out₀ base at₀ x₀ out at x = Laid out₀ out base at (flat (inOrder x (relation rows))) × (x ≤ 2048)
+Inv-loop out₀ base rows at₀ x₀ out at x = Laid out₀ out base at (flat (inOrder x (relation rows))) × (x ≤ 2048)
 
 abbrev μ-loop : tie.MeasureT-loop
-μ-loop rows out₀ base at₀ x₀ out at x = 2048 - x
+μ-loop out₀ base rows at₀ x₀ out at x = 2048 - x
 
 loop-holds : tie.Need-loop-holds Inv-loop μ-loop
-unfolding inOrder
+unfolding inOrder selected
 loop-holds c = (laid-none _ _, omega arith)
 
-is-step-requires : tie.Need-is-step-requires Inv-loop μ-loop
-is-step-requires c κs = search needs
+mul-member : tie.Need-mul-member Inv-loop μ-loop
+mul-member c = search needs
+
+array-read-member : tie.Need-array-read-member Inv-loop μ-loop
+array-read-member c = search needs
+
+member-requires : tie.Need-member-requires Inv-loop μ-loop
+member-requires c κs = search needs
 
 put-step-requires : tie.Need-put-step-requires Inv-loop μ-loop
 put-step-requires c κs =
     let at-loop = c .before .before .before in
     let start = at-loop .before .before in
     let (l, few) = at-loop .loop .inv in
-    (omega arith, turn-room _ _ _ (c .before .before .loop-test .taken) (start .pre) l (c .before .is-step .ensures))
+    (omega arith, turn-room _ _ _ (c .before .before .loop-test .taken) (start .pre) l (told _ _ (c .before .member .ensures)))
 
 add-x : tie.Need-add-x Inv-loop μ-loop
 add-x c = search needs
@@ -42,10 +47,10 @@ loop-less c = search needs
 loop-again : tie.Need-loop-again Inv-loop μ-loop
 loop-again c =
     let at-put-step = c .before .before in
-    let at-is-step = at-put-step .before .before in
-    let at-loop = at-is-step .before .before in
+    let at-member = at-put-step .before .before in
+    let at-loop = at-member .before .before in
     let (l, few) = at-loop .loop .inv in
-    (laid-turn _ _ _ l (at-is-step .is-step .ensures) (at-put-step .put-step .ensures), omega arith)
+    (laid-turn _ _ _ l (told _ _ (at-member .member .ensures)) (at-put-step .put-step .ensures), omega arith)
 
 same-length : tie.Need-same-length Inv-loop μ-loop
 same-length c = c .before .loop .inv .0 .long
@@ -54,7 +59,7 @@ returns : tie.Need-returns Inv-loop μ-loop
 returns c =
     let e : c .before .loop .x ≡ 2048 = omega arith in
     let l = rw e at (c .before .loop .inv .0) in
-    (l, omega (arith, l .ends, length-flat (inOrder 2048 (relation (c .before .before .before .args .rows)))))
+    (l, laid-ends _ l)
 
 pub put-steps-spec : {M : Type 1} → statement M
 put-steps-spec =
@@ -63,7 +68,9 @@ put-steps-spec =
     Inv-loop
     μ-loop
     loop-holds
-    is-step-requires
+    mul-member
+    array-read-member
+    member-requires
     put-step-requires
     add-x
     loop-less

@@ -2,7 +2,7 @@
 use borrow.Author.Needs.{needs}
 use Rattle.case_tests.specs.RowTests.{limitsOf}
 use Rattle.case_model.specs.Rows.{refusals}
-use Rattle.case_file.proofs.Stages.{went, may-close}
+use Rattle.case_file.proofs.Stages.{went, went-twice, rule-tested, may-close}
 use Rattle.case_file.proofs.vetting.Vetting.rows.Statement.{statement}
 use Rattle.case_file.proofs.vetting.Vetting.rows.Tie as tie
 
@@ -21,6 +21,9 @@ steps-requires c κs = search needs
 rule-requires : tie.Need-rule-requires
 rule-requires c κs = search needs
 
+starts-requires : tie.Need-starts-requires
+starts-requires c κs = search rule-tested
+
 kinds-requires : tie.Need-kinds-requires
 kinds-requires c κs = search needs
 
@@ -29,32 +32,33 @@ binders-requires c κs = search needs
 
 closed-requires : tie.Need-closed-requires
 closed-requires c κs =
-    let c2 = c .before .before in
-    let c4 = c2 .before .before in
-    let at-pairs = c4 .before in
-    let at-begin = at-pairs .before in
-    let start = at-begin .before .before in
+    let at-starts = c .before .before in
+    let at-steps = at-starts .before .before in
+    let at-pairs = at-steps .before .before in
+    let start = at-pairs .before .before .before in
     may-close (limitsOf (start .args .limits)) (start .args .file .now)
     (went
     (went
-    (went (went (went (went (at-begin .begin .ensures) (at-pairs .pairs .ensures)) (c4 .labels .ensures)) (c2 .before .steps .ensures))
-    (c2 .rule .ensures))
+    (went
+    (went (went (went (at-pairs .before .begin .ensures) (at-pairs .pairs .ensures)) (at-steps .before .labels .ensures)) (at-steps .steps .ensures))
+    (went-twice (at-starts .before .rule .ensures) (at-starts .starts .ensures)))
     (c .before .kinds .ensures))
     (c .binders .ensures))
 
 returns : tie.Need-returns
 unfolding refusals
 returns c =
-    let c2 = c .before .before in
-    let c4 = c2 .before .before in
-    let c6 = c4 .before .before in
+    let at-kinds = c .before .before in
+    let at-rule = at-kinds .before .before in
+    let at-labels = at-rule .before .before in
+    let at-begin = at-labels .before .before in
     went
     (went
     (went
     (went
-    (went (went (went (c6 .before .begin .ensures) (c6 .pairs .ensures)) (c4 .before .labels .ensures)) (c4 .steps .ensures))
-    (c2 .before .rule .ensures))
-    (c2 .kinds .ensures))
+    (went (went (went (at-begin .begin .ensures) (at-labels .before .pairs .ensures)) (at-labels .labels .ensures)) (at-rule .before .steps .ensures))
+    (went-twice (at-rule .rule .ensures) (at-kinds .before .starts .ensures)))
+    (at-kinds .kinds .ensures))
     (c .before .binders .ensures))
     (c .closed .ensures)
 
@@ -67,6 +71,7 @@ rows-spec =
     labels-requires
     steps-requires
     rule-requires
+    starts-requires
     kinds-requires
     binders-requires
     closed-requires

@@ -1,0 +1,48 @@
+-- Start states after a merge and the word on all of them, computed from the definitions; and that demand 3 tells two cases apart by the word.
+-- By computation: a slip in a definition makes one of these equations false.
+use Prim.Native.Nat.{ℕ}
+use mathlib.Core.Bool.{true, false, false≢true}
+use mathlib.Core.List.{List, [], _∷_}
+use mathlib.Core.Path.{_≡_, refl, sym, _∙_}
+use Rattle.flc.specs.Sets.{both, either, forAll, forSome, first, has, setOf}
+use Rattle.flc.specs.Formula.{free, meanAtom, mean}
+use Rattle.flc.specs.Nodes.{lower, formulaAt}
+use Rattle.case_model.specs.Bytes.{listOf, chained, pairsHold, section, packed}
+use Rattle.case_model.specs.Case.{write, table, nodeAt, rule}
+use Rattle.case_model.specs.Kinds.{kinds, kindAt}
+use Rattle.case_model.specs.Rows.{lowest, rootClosed, refusals}
+use Rattle.case_model.specs.Judging.{verdict, judging}
+use Rattle.case_model.specs.Merging.{moved, selected, isIn, merge}
+use Rattle.case_model.specs.Run.{Call, holds, everyStart, startsHold, Kept}
+
+-- where 0 and 2 of three states are merged: a repeat falls together, and the order is restored
+abbrev merged : List ℕ → List ℕ
+merged at = merge (record { labels = 0 ∷ 1 ∷ 0 ∷ []; steps = []; nodes = (5, 0, 0) ∷ []; root = 0; starts = at }) 0 2 .starts
+
+merges :
+    (merged (0 ∷ 2 ∷ []) ≡ 0 ∷ [])
+    × (merged (1 ∷ 2 ∷ []) ≡ 0 ∷ 1 ∷ [])
+    × (merged (2 ∷ []) ≡ 0 ∷ [])
+    × (merged [] ≡ [])
+unfolding merge moved selected isIn either
+merges = (refl, refl, refl, refl)
+
+-- the rule p0 on two states, of which 0 has the proposition and 1 has not
+abbrev startingAt : List ℕ → List ℕ
+startingAt at = write (record { labels = 1 ∷ 0 ∷ []; steps = []; nodes = (2, 0, 0) ∷ []; root = 0; starts = at })
+
+words :
+    (startsHold (startingAt (0 ∷ [])) 8 ≡ true)
+    × (startsHold (startingAt (1 ∷ [])) 8 ≡ false)
+    × (startsHold (startingAt (0 ∷ 1 ∷ [])) 8 ≡ false)
+    × (startsHold (startingAt []) 8 ≡ true)
+unfolding startsHold everyStart holds judging verdict meanAtom mean has setOf table write packed refusals pairsHold chained section
+    listOf lowest first forAll forSome both either rootClosed rule formulaAt lower nodeAt kindAt kinds free
+words = (refl, refl, refl, refl)
+
+-- no list of calls leads from a case whose start states hold to one where they do not, however alike the cases are else
+apart : (l : List Call) → Kept (startingAt (0 ∷ [])) l (startingAt (1 ∷ [])) → ⊥
+unfolding write packed section listOf table
+apart l K =
+    let same : startsHold (startingAt (0 ∷ [])) 8 ≡ startsHold (startingAt (1 ∷ [])) 8 = K .starts 8 8 refl refl in
+    false≢true (sym (sym (words .0) ∙ same ∙ words .1))
