@@ -14,24 +14,9 @@ use Rattle.case_model.specs.Case.{write, listed, table, nodeAt, rule}
 use Rattle.case_model.specs.Kinds.{Triple, kinds, kindAt}
 use Rattle.case_model.specs.Rows.{lowest, rootClosed, refusals}
 use Rattle.case_model.specs.Replies.{answers, refuses}
+use Rattle.case_model.proofs.Examples.{startingAt, caseOf, nodes, F}
 use Rattle.case_model.specs.Merging.{moved, movedSteps, selected, inOrder, isIn, merge, merging}
 use Rattle.case_model.specs.Rewriting.{change, renamed, rewrite, rewriting}
-
--- the rule of case F
-abbrev rule-F : List Triple
-rule-F =
-    (4, 0, 0) ∷ (4, 1, 0) ∷ (10, 0, 1) ∷ (10, 2, 0) ∷ (12, 1, 3) ∷ (6, 0, 0) ∷ (10, 5, 4) ∷ (6, 1, 0) ∷ (8, 7, 6) ∷ (11, 0, 8) ∷ []
-
--- the file of a case, with start states and without
-abbrev startingAt : List ℕ → List ℕ → List Triple → List Triple → ℕ → List ℕ
-startingAt at l s n r = write (record { labels = l; steps = s; nodes = n; root = r; starts = at })
-
-abbrev caseOf : List ℕ → List Triple → List Triple → ℕ → List ℕ
-caseOf = startingAt []
-
--- case F
-abbrev F : List ℕ
-F = caseOf (0 ∷ 0 ∷ []) ((0, 0, 1) ∷ (1, 1, 1) ∷ []) rule-F 9
 
 -- one state without steps, and a rule
 abbrev of : List Triple → ℕ → List ℕ
@@ -43,7 +28,7 @@ rewrites :
     × (rewriting F 0 8 55 ≡ refuses 11 0)
     × (rewriting (of (replicate 61 (5, 0, 0) ++ ((10, 0, 0) ∷ (10, 61, 0) ∷ (5, 0, 0) ∷ [])) 62) 4 62 6385 ≡ refuses 12 0)
     × (rewriting F 9 8 54 ≡ refuses 13 0)
-    × (rewriting F 9 8 55 ≡ answers (caseOf (0 ∷ 0 ∷ []) ((0, 0, 1) ∷ (1, 1, 1) ∷ []) (set rule-F 8 (8, 6, 7)) 9))
+    × (rewriting F 9 8 55 ≡ answers (caseOf (0 ∷ 0 ∷ []) ((0, 0, 1) ∷ (1, 1, 1) ∷ []) (set nodes 8 (8, 6, 7)) 9))
     × (rewriting (of ((5, 0, 0) ∷ (6, 0, 0) ∷ (10, 0, 1) ∷ []) 2) 1 2 99 ≡ answers (of ((5, 0, 0) ∷ (6, 0, 0) ∷ (10, 0, 1) ∷ []) 1))
     × (rewriting (of ((6, 0, 0) ∷ (6, 1, 0) ∷ (10, 0, 1) ∷ (10, 2, 0) ∷ (8, 3, 2) ∷ []) 4) 4 3 99
     ≡ answers (of ((6, 0, 0) ∷ (6, 1, 0) ∷ (10, 0, 1) ∷ (10, 1, 0) ∷ (10, 0, 3) ∷ (8, 4, 2) ∷ []) 5))

@@ -14,24 +14,25 @@ use Rattle.case_model.specs.Kinds.{Triple, kinds, kindAt, nodeOf}
 use Rattle.case_model.specs.Rows.{lowest, rootClosed, refusals}
 use Rattle.case_model.specs.Replies.{answers, refuses, vetting, opening}
 
--- case F with other labels, steps, nodes, root or start states
-abbrev startingAt : List ℕ → List ℕ → List Triple → List Triple → ℕ → List ℕ
+-- the file of a case, with start states and without
+abbrev pub startingAt : List ℕ → List ℕ → List Triple → List Triple → ℕ → List ℕ
 startingAt at l s n r = write (record { labels = l; steps = s; nodes = n; root = r; starts = at })
 
-abbrev caseOf : List ℕ → List Triple → List Triple → ℕ → List ℕ
+abbrev pub caseOf : List ℕ → List Triple → List Triple → ℕ → List ℕ
 caseOf = startingAt []
 
+-- case F
 abbrev labels : List ℕ
 labels = 0 ∷ 0 ∷ []
 
 abbrev steps : List Triple
 steps = (0, 0, 1) ∷ (1, 1, 1) ∷ []
 
-abbrev nodes : List Triple
+abbrev pub nodes : List Triple
 nodes =
     (4, 0, 0) ∷ (4, 1, 0) ∷ (10, 0, 1) ∷ (10, 2, 0) ∷ (12, 1, 3) ∷ (6, 0, 0) ∷ (10, 5, 4) ∷ (6, 1, 0) ∷ (8, 7, 6) ∷ (11, 0, 8) ∷ []
 
-abbrev F : List ℕ
+abbrev pub F : List ℕ
 F = caseOf labels steps nodes 9
 
 -- the bytes of case F

@@ -28,21 +28,21 @@ unfolding merge moved selected isIn either
 merges = (refl, refl, refl, refl)
 
 -- the rule p0 on two states, of which 0 has the proposition and 1 has not
-abbrev startingAt : List ℕ → List ℕ
-startingAt at = write (record { labels = 1 ∷ 0 ∷ []; steps = []; nodes = (2, 0, 0) ∷ []; root = 0; starts = at })
+abbrev fileOf : List ℕ → List ℕ
+fileOf at = write (record { labels = 1 ∷ 0 ∷ []; steps = []; nodes = (2, 0, 0) ∷ []; root = 0; starts = at })
 
 words :
-    (startsHold (startingAt (0 ∷ [])) 8 ≡ true)
-    × (startsHold (startingAt (1 ∷ [])) 8 ≡ false)
-    × (startsHold (startingAt (0 ∷ 1 ∷ [])) 8 ≡ false)
-    × (startsHold (startingAt []) 8 ≡ true)
+    (startsHold (fileOf (0 ∷ [])) 8 ≡ true)
+    × (startsHold (fileOf (1 ∷ [])) 8 ≡ false)
+    × (startsHold (fileOf (0 ∷ 1 ∷ [])) 8 ≡ false)
+    × (startsHold (fileOf []) 8 ≡ true)
 unfolding startsHold everyStart holds judging verdict meanAtom mean has setOf table write packed refusals pairsHold chained section
     listOf lowest first forAll forSome both either rootClosed rule formulaAt lower nodeAt kindAt kinds free
 words = (refl, refl, refl, refl)
 
 -- no list of calls leads from a case whose start states hold to one where they do not, however alike the cases are else
-apart : (l : List Call) → Kept (startingAt (0 ∷ [])) l (startingAt (1 ∷ [])) → ⊥
+apart : (l : List Call) → Kept (fileOf (0 ∷ [])) l (fileOf (1 ∷ [])) → ⊥
 unfolding write packed section listOf table
 apart l K =
-    let same : startsHold (startingAt (0 ∷ [])) 8 ≡ startsHold (startingAt (1 ∷ [])) 8 = K .starts 8 8 refl refl in
+    let same : startsHold (fileOf (0 ∷ [])) 8 ≡ startsHold (fileOf (1 ∷ [])) 8 = K .starts 8 8 refl refl in
     false≢true (sym (sym (words .0) ∙ same ∙ words .1))

@@ -13,7 +13,7 @@ use Rattle.flc.proofs.Tests.{bool-ext, both-mk, either-left, either-right}
 use Rattle.case_model.specs.Case.{Case, listed, at}
 use Rattle.case_model.specs.Kinds.{Triple}
 use Rattle.case_model.specs.Rows.{rises, stepFits, stepWrong}
-use Rattle.case_model.specs.Merging.{numbered, inOrder}
+use Rattle.case_model.specs.Merging.{numbered, isStep, inOrder}
 use Rattle.case_model.proofs.Order.{in-order}
 use Rattle.case_model.proofs.Selected.{selected-next, selected-use, selected-mk}
 use Rattle.case_model.proofs.Steps.{InRange, number, number-rises, listed-at}
@@ -30,23 +30,19 @@ number-back : (x : ℕ) → number (numbered x) ≡ x
 number-back x = omega arith
 
 module _ (step : ℕ → ℕ → ℕ → Bool) where
-  -- the triple numbered x is a step
-  abbrev isStep : ℕ → Bool
-  isStep x = step (x / 128) (x / 16 % 8) (x % 16)
-
   abbrev steps : List Triple
   steps = inOrder 2048 step
 
   -- in order
   pub inOrder-next : (i : ℕ) → suc i < length steps → number (at steps i) < number (at steps (suc i))
   unfolding inOrder
-  inOrder-next = selected-next isStep numbered number number-back (0, 0, 0) 2048
+  inOrder-next = selected-next (isStep step) numbered number number-back (0, 0, 0) 2048
 
   -- what is listed is a step
   at-step : (i : ℕ) → i < length steps → T (step (at steps i .0) (at steps i .1) (at steps i .2))
   unfolding inOrder
   at-step i h =
-      let (x, b, t, e) = selected-use isStep numbered (0, 0, 0) 2048 i h in
+      let (x, b, t, e) = selected-use (isStep step) numbered (0, 0, 0) 2048 i h in
       subst (λ (y : Triple). T (step (y .0) (y .1) (y .2))) (sym e) t
 
   inOrder-use : (s a t : ℕ) → T (listed steps s a t) → T (step s a t)
@@ -62,7 +58,7 @@ module _ (step : ℕ → ℕ → ℕ → Bool) where
       let p : x / 128 ≡ s = omega (arith, r .action, r .to) in
       let q : x / 16 % 8 ≡ a = omega (arith, r .action, r .to) in
       let w : x % 16 ≡ t = omega (arith, r .action, r .to) in
-      let (i, k, e) = selected-mk isStep numbered (0, 0, 0) 2048 x (omega (arith, r .from, r .action, r .to)) (rw (p, q, w) u) in
+      let (i, k, e) = selected-mk (isStep step) numbered (0, 0, 0) 2048 x (omega (arith, r .from, r .action, r .to)) (rw (p, q, w) u) in
       let z : at steps i ≡ (s, a, t) = e ∙ (λ z. (p z, q z, w z)) in
       subst (λ (y : Triple). T (listed steps (y .0) (y .1) (y .2))) z (at-listed steps i k)
 

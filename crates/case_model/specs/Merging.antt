@@ -34,17 +34,25 @@ movedSteps k r [] = []
 movedSteps k r (t ∷ l) =
     cond (eqb (t .0) r) (movedSteps k r l) ((moved k r (t .0), t .1, moved k r (t .2)) ∷ movedSteps k r l)
 
--- h x for each number x below n of which p holds: sorted, and without repeats
+-- a, if the test passed
+abbrev pub chosen : {A : Type 0} → Bool → A → List A
+chosen b a = cond b (a ∷ []) []
+
+-- clauses 4.5 and 4.8, sorted and without repeats: h x for each number x below n of which p holds
 unfoldable pub selected : {A : Type 0} → ℕ → (ℕ → Bool) → (ℕ → A) → List A
 selected zero p h = []
-selected (suc x) p h = selected x p h ++ cond (p x) (h x ∷ []) []
+selected (suc x) p h = selected x p h ++ chosen (p x) (h x)
 
--- clause 4.5: the steps among the triples numbered below n, where (s, a, t) has the number 128 s + 16 a + t
+-- the triple (s, a, t) with the number x, which is 128 s + 16 a + t; and whether it is a step
 abbrev pub numbered : ℕ → Triple
 numbered x = (x / 128, x / 16 % 8, x % 16)
 
+abbrev pub isStep : (ℕ → ℕ → ℕ → Bool) → ℕ → Bool
+isStep step x = step (x / 128) (x / 16 % 8) (x % 16)
+
+-- clause 4.5: the steps among the triples numbered below n
 unfoldable pub inOrder : ℕ → (ℕ → ℕ → ℕ → Bool) → List Triple
-inOrder n step = selected n (λ x. step (x / 128) (x / 16 % 8) (x % 16)) numbered
+inOrder n step = selected n (isStep step) numbered
 
 -- clause 4.8: s is in the list
 unfoldable pub isIn : List ℕ → ℕ → Bool

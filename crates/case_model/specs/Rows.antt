@@ -31,7 +31,7 @@ unless false k p = refused k p
 unfoldable pub lowest : ℕ → (ℕ → Bool) → ℕ → Found
 lowest k wrong c = unless (eqb (first wrong 0 c) c) k (first wrong 0 c)
 
--- element i of a list is at fault, by itself or because it does not come after the one before it
+-- clauses 1.5 and 1.16: element i of a list is at fault, by itself or because it does not come after the one before it
 abbrev pub outOfOrder : {A : Type 0} → (A → Bool) → (A → A → Bool) → (ℕ → A) → ℕ → Bool
 outOfOrder inRange after l i = not (inRange (l i) && (eqb i 0 || after (l (i - 1)) (l i)))
 
@@ -85,11 +85,12 @@ row2 most c = unless (labelsHold most c) 2 0
 abbrev pub row3 : List ℕ → Case → Found
 row3 f c = unless (eqb (size f 1 % 3) 0) 3 0 orElse lowest 3 (stepWrong c) (length (c .steps))
 
--- clause 8.4: whole nodes, 1 to 64 of them, then the number of one; and after that the start states
+-- clause 8.4: whole nodes, 1 to 64 of them, then the number of one
 abbrev pub ruleHolds : List ℕ → Case → Bool
 ruleHolds f c =
     eqb (size f 2 % 3) 1 && leb 1 (length (c .nodes)) && leb (length (c .nodes)) mostNodes && ltb (c .root) (length (c .nodes))
 
+-- and no start state at fault, which is asked after that
 abbrev pub startsRise : Case → Bool
 startsRise c = forAll (length (c .starts)) (λ i. not (startWrong c i))
 

@@ -71,7 +71,7 @@ inAnswer (refuses k p) s = false
 unfoldable pub holds : List ℕ → ℕ → ℕ → Bool
 holds f words s = inAnswer (judging f (allStates (read f)) words) s
 
--- p holds of every start state; without start states, that is so
+-- p holds of every start state of the case (clause 3.5); without start states, that is so
 unfoldable pub everyStart : Case → (ℕ → Bool) → Bool
 everyStart c p = forAll (length (c .starts)) (λ i. p (byteAt (c .starts) i))
 

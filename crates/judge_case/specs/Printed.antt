@@ -63,6 +63,7 @@ verdictLines n all v = line states n ++ (line rounds (v .rounds) ++ (lines n (v 
 unfoldable pub refusalLine : ℕ → ℕ → List ℕ
 refusalLine k p = refused ++ (numeral k ++ line space p)
 
+-- one or the other, by judging's reply
 abbrev pub printed : ℕ → Bool → Reply Verdict → List ℕ
 printed n all (answers v) = verdictLines n all v
 printed n all (refuses k p) = refusalLine k p

@@ -17,10 +17,10 @@ use Rattle.case_model.specs.Areas.{Laid}
 use Rattle.case_model.specs.Bytes.{byteAt}
 use Rattle.case_model.specs.Limits.{mostStates}
 use Rattle.case_model.specs.Case.{Case}
-use Rattle.case_model.specs.Merging.{selected, isIn, merge}
+use Rattle.case_model.specs.Merging.{chosen, selected, isIn, merge}
 use Rattle.case_model.proofs.Laying.{laid-after}
 use Rattle.case_model.proofs.Selected.{selected-ext, selected-more, selected-few, selected-room}
-use Rattle.merged_starts.specs.StartSets.{startSet, chosen, members}
+use Rattle.merged_starts.specs.StartSets.{startSet, members}
 use Rattle.merged_steps.specs.declared.rows.Pair.{Pair}
 
 -- the states of the set are the start states of the merged case

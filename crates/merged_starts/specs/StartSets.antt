@@ -1,7 +1,6 @@
 -- The start states of a merged case as a set, and a set as a list of bytes.
 use Prim.Native.Nat.{ℕ, _<_}
-use mathlib.Core.Bool.{Bool, cond}
-use mathlib.Core.List.{List, [], _∷_, map}
+use mathlib.Core.List.{List, map}
 use lib.ListN.{length}
 use Rattle.flc.specs.Sets.{has, setOf}
 use Rattle.case_model.specs.Bytes.{byteAt}
@@ -18,10 +17,6 @@ startSet c p = setOf mostStates (isIn (map (moved (p .kept) (p .removed)) (c .st
 pub record Small (c : Case) (p : Pair) : Type 0 where
   pub kept : p .kept < mostStates
   pub starts : (i : ℕ) → i < length (c .starts) → byteAt (c .starts) i < mostStates
-
--- state s, if it is in the set
-abbrev pub chosen : Bool → ℕ → List ℕ
-chosen is s = cond is (s ∷ []) []
 
 -- the states of a set, in rising order
 unfoldable pub members : ℕ → List ℕ

@@ -1,6 +1,6 @@
 -- The steps of a relation by their numbers: carried over to the merged case one by one, counted, and written in order.
 -- Whether a moved step is listed depends on which steps are listed, and not on their order; so a turn may put its step in front or behind.
-use mathlib.Core.Bool.{Bool, true, false, cond}
+use mathlib.Core.Bool.{Bool, true, false}
 use mathlib.Core.List.{List, [], _∷_, _++_, append-nil}
 use mathlib.Core.Path.{_≡_, refl, sym, ap, _∙_, subst}
 use Prim.Native.Nat.{ℕ, _+_, _*_, _/_, _%_, _≤_, _<_}
@@ -17,7 +17,7 @@ use Rattle.case_model.specs.Areas.{Laid}
 use Rattle.case_model.specs.Limits.{mostStates}
 use Rattle.case_model.specs.Case.{Case, flat, listed}
 use Rattle.case_model.specs.Kinds.{Triple}
-use Rattle.case_model.specs.Merging.{moved, movedSteps, numbered, selected, inOrder}
+use Rattle.case_model.specs.Merging.{moved, movedSteps, chosen, numbered, selected, isStep, inOrder}
 use Rattle.case_model.specs.Valid.{ValidTable}
 use Rattle.case_model.proofs.Codec.{length-flat}
 use Rattle.case_model.proofs.Laying.{laid-after}
@@ -28,7 +28,7 @@ use Rattle.case_model.proofs.MovedStates.{movedSteps-use, movedSteps-mk}
 use Rattle.case_reader.specs.StepRows.{relation, StepRows}
 use Rattle.case_reader.proofs.Marking.{marks-none, marks-more}
 use Rattle.case_writer.proofs.Parts.{flat-append}
-use Rattle.merged_steps.specs.Relation.{chosen, carried}
+use Rattle.merged_steps.specs.Relation.{carried}
 
 -- ---- lists of the same steps
 abbrev Same : List Triple → List Triple → Type 0
@@ -64,7 +64,7 @@ module _ (k r : ℕ) where
   carried-none step = marks-none false []
 
   carried-more : (is : Bool) (y : Triple) (l : List Triple) {rows : List ℕ} → StepRows (movedSteps k r l) rows
-      → StepRows (movedSteps k r (l ++ cond is (y ∷ []) [])) (carried k r is y rows)
+      → StepRows (movedSteps k r (l ++ chosen is y)) (carried k r is y rows)
   unfolding movedSteps
   carried-more false y l R = rw (append-nil l) R
   carried-more true y l R = steps-same (moved-same (y ∷ l) (l ++ (y ∷ [])) (same-behind l y)) (elim (ℕ-discrete (y .0) r) [
@@ -74,7 +74,7 @@ module _ (k r : ℕ) where
 
   -- one turn
   pub carried-turn : (step : ℕ → ℕ → ℕ → Bool) (x : ℕ) (is : Bool) {rows next : List ℕ} → StepRows (movedSteps k r (inOrder x step)) rows
-      → is ≡ step (x / 128) (x / 16 % 8) (x % 16) → next ≡ carried k r is (numbered x) rows → StepRows (movedSteps k r (inOrder (x + 1) step)) next
+      → is ≡ isStep step x → next ≡ carried k r is (numbered x) rows → StepRows (movedSteps k r (inOrder (x + 1) step)) next
   unfolding inOrder selected
   carried-turn step x is R e q = rw (add-one x, q, ← e) (carried-more is (numbered x) (inOrder x step) R)
 
@@ -89,10 +89,6 @@ pub carried-all : {c : Case} → ValidTable mostStates c → (k r : ℕ) {rows n
 carried-all {c} valid k r {rows} R = steps-same (moved-same k r (inOrder 2048 (relation rows)) (c .steps) (λ s a t.
     ap (λ l. listed l s a t) (rows-order R)
     ∙ listed-inOrder (listed (c .steps)) (length (c .labels)) (valid .few) (listed-in valid) s a t))
-
--- the triple numbered x is a step
-abbrev isStep : (ℕ → ℕ → ℕ → Bool) → ℕ → Bool
-isStep step x = step (x / 128) (x / 16 % 8) (x % 16)
 
 -- the row of the triple numbered x is x / 16
 pub told : (rows : List ℕ) (x : ℕ) {b : Bool} → b ≡ has (getD rows (x / 16) 0) (x % 16) → b ≡ isStep (relation rows) x
@@ -115,22 +111,23 @@ counted-few step x n b p q = rw (counted step x n b p q) (order-few step (x + 1)
 
 -- ---- one turn of writing, for which there is room
 pub laid-turn : (step : ℕ → ℕ → ℕ → Bool) (x : ℕ) (b : Bool) {w v u : List ℕ} {base mid end : ℕ} → Laid w v base mid (flat (inOrder x step))
-    → b ≡ step (x / 128) (x / 16 % 8) (x % 16) → Laid v u mid end (flat (chosen b x)) → Laid w u base end (flat (inOrder (x + 1) step))
+    → b ≡ isStep step x → Laid v u mid end (flat (chosen b (numbered x))) → Laid w u base end (flat (inOrder (x + 1) step))
 unfolding inOrder
 laid-turn step x b {v = v} {u} {mid = mid} {end} p q e =
-    rw (selected-more (isStep step) numbered x, flat-append (inOrder x step)) (laid-after p (subst (λ z. Laid v u mid end (flat (chosen z x))) q e))
+    rw (selected-more (isStep step) numbered x, flat-append (inOrder x step)) (laid-after p (subst (λ z. Laid v u mid end (flat (chosen z (numbered x)))) q e))
 
 pub turn-room : (step : ℕ → ℕ → ℕ → Bool) (x : ℕ) (b : Bool) {w v : List ℕ} {base mid : ℕ} → x < 2048 → base + 3 * length (inOrder 2048 step) ≤ length w
-    → Laid w v base mid (flat (inOrder x step)) → b ≡ step (x / 128) (x / 16 % 8) (x % 16) → mid + 3 * length (chosen b x) ≤ length v
+    → Laid w v base mid (flat (inOrder x step)) → b ≡ isStep step x → mid + 3 * length (chosen b (numbered x)) ≤ length v
 unfolding inOrder
 turn-room step x b h room p q =
-    let e : length (chosen b x) ≡ length (chosen (step (x / 128) (x / 16 % 8) (x % 16)) x) = ap (λ z. length (chosen z x)) q in
+    let e : length (chosen b (numbered x)) ≡ length (chosen (isStep step x) (numbered x)) = ap (λ z. length (chosen z (numbered x))) q in
     omega (arith, selected-room (isStep step) numbered x 2048 h, length-flat (inOrder x step))
 
 -- where the steps end
-pub laid-ends : (step : ℕ → ℕ → ℕ → Bool) {w v : List ℕ} {base end : ℕ} → Laid w v base end (flat (inOrder 2048 step)) → end ≡ base + 3 * length (inOrder 2048 step)
+pub laid-ends : (step : ℕ → ℕ → ℕ → Bool) {w v : List ℕ} {base end : ℕ} → Laid w v base end (flat (inOrder 2048 step))
+    → end ≡ base + 3 * length (inOrder 2048 step)
 laid-ends step p = omega (arith, p .ends, length-flat (inOrder 2048 step))
 
 -- room for a step
-pub room : (b : Bool) (x at : ℕ) {n : ℕ} → b ≡ true → at + 3 * length (chosen b x) ≤ n → at + 3 ≤ n
+pub room : (b : Bool) (x at : ℕ) {n : ℕ} → b ≡ true → at + 3 * length (chosen b (numbered x)) ≤ n → at + 3 ≤ n
 room b x at e h = rw e at h

@@ -1,4 +1,4 @@
-// Internal: the steps of a merged case as rows, counted and written; serves merged_file and merging.
+// Internal: the steps of a merged case as rows, counted and written; serves merged_starts, merged_file and merging.
 mod rows;
 
 pub use rows::Pair;

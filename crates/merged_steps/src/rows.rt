@@ -1,12 +1,13 @@
-// The step relation of the merged case, as the rows of case_reader's table: bit t of row 8s + a is the step (s, a, t).
+// The step relation of the merged case, as the rows of case_reader's table: bit t of row 8s + a is the step (s, a, t), which is bit x % 16 of row x / 16 for the
+// triple with the number x. Each loop reads that row itself: handed to a function, the rows would be copied at each of 2,048 turns.
 ghost use mathlib.Core.Path.{_≡_};
 ghost use Prim.Native.Nat.{_+_, _*_, _/_, _%_, _≤_, _<_, min, max};
 ghost use lib.ListN.{length};
 ghost use Rattle.case_model.specs.Areas.{Laid};
 ghost use Rattle.case_model.specs.Case.{flat};
-ghost use Rattle.case_model.specs.Merging.{moved, movedSteps, numbered, inOrder};
+ghost use Rattle.case_model.specs.Merging.{moved, movedSteps, chosen, numbered, inOrder};
 ghost use Rattle.case_reader.specs.StepRows.{relation, StepRows};
-ghost use Rattle.merged_steps.specs.Relation.{chosen, carried};
+ghost use Rattle.merged_steps.specs.Relation.{carried};
 use bisimilarity::member;
 use case_reader::Triple;
 use case_reader::mark;
@@ -91,8 +92,8 @@ pub fn count(rows: [u16; 128]) -> usize
 
 // Writes the triple with the number x if it is a step.
 fn put_step(is: bool, x: usize, out: &mut [u8], at: usize) -> usize
-    requires { ⌜ (x < 2048) × (at + 3 * length (chosen is x) ≤ length (now out)) ⌝ }
-    ensures { λ r. ⌜ Laid (now (out .entry)) (now (out .exit)) at r (flat (chosen is x)) ⌝ }
+    requires { ⌜ (x < 2048) × (at + 3 * length (chosen is (numbered x)) ≤ length (now out)) ⌝ }
+    ensures { λ r. ⌜ Laid (now (out .entry)) (now (out .exit)) at r (flat (chosen is (numbered x))) ⌝ }
 {
     if is {
         let t = numbered(x);

@@ -3,7 +3,7 @@
 //! `cargo run --release --example merge_alike -- CASE [SMALLER]`
 //!
 //! `SMALLER`, if it is named, is the file to which the smaller case is written.
-use hoidrul::{Refusal, Verdict, LABELS, LONGEST};
+use hoidrul::{Refusal, Verdict, LABELS, LONGEST, STARTS};
 use std::fmt::Display;
 use std::path::{Path, PathBuf};
 use std::process::ExitCode;
@@ -49,7 +49,7 @@ fn show(file: &[u8]) -> Result<Vec<u8>, Refusal> {
         let (holds, still) = (before.holds(state), after.holds(stands));
         println!("{state} {}, as {stands} {}", word(holds), word(still));
     }
-    let (hold, still) = (starts_hold(file)?, starts_hold(&smaller)?);
+    let (hold, still) = (starts_hold(file, before)?, starts_hold(&smaller, after)?);
     println!("starts {}, merged {}", word(hold), word(still));
     Ok(smaller)
 }
@@ -61,10 +61,10 @@ fn judge(file: &[u8]) -> Result<Verdict, Refusal> {
     hoidrul::judge(file, all, &mut work)
 }
 
-/// Whether every start state holds.
-fn starts_hold(file: &[u8]) -> Result<bool, Refusal> {
-    let mut work = vec![0; hoidrul::work_area(file)?];
-    hoidrul::starts_hold(file, &mut work)
+/// Whether every start state holds, by the verdict, so that nothing is judged twice.
+fn starts_hold(file: &[u8], verdict: Verdict) -> Result<bool, Refusal> {
+    let starts = hoidrul::open(file, STARTS)?;
+    Ok(starts.iter().all(|&state| verdict.holds(state.into())))
 }
 
 /// The classes: at each state, the lowest that is alike to it.

@@ -77,6 +77,7 @@ mod tests {
         assert_eq!(merge(&file, 0, 1, 33), Err(Refusal::new(13, 0)));
         assert_eq!(merge(&file, 0, 1, 34), Ok(write(&expected)));
     }
+
     /// Start states of a table of three alike states, before 0 and 2 are merged and after.
     #[test]
     fn start_states_are_carried() {

@@ -179,6 +179,7 @@ mod tests {
         assert_eq!(within(file.len(), 16), Err(Refusal::new(2, 0)));
         assert_eq!(within(file.len() - 1, 17), Err(Refusal::new(1, 0)));
     }
+
     /// On a table of three states; the refusal's number.
     fn with_starts(starts: &[u8], node: Triple) -> Result<Vec<u8>, u32> {
         let case = Case {

@@ -1,4 +1,4 @@
--- `merged_file::writing::put_merged` meets its contract: the pairs, the labels in two parts, the steps and the rule, one after the other.
+-- `merged_file::writing::put_merged` meets its contract: the pairs, the labels in two parts, the steps, the rule and the start states, one after the other.
 use mathlib.Core.Path.{refl}
 use native.Mathlib.Omega.{arith}
 use Rattle.merged_file.proofs.MergedBytes.{fits, merged-laid}
