@@ -1,7 +1,7 @@
 -- Rows of masks as a step relation: a step marked, and the steps of a list marked from the last to the first.
 -- A mark changes one bit of one row, the step's; a step that has no place there changes nothing.
 use Prim.Native.Nat.{ℕ, suc, _+_, _*_, _-_, _%_, _^_, _≤_, _<_}
-use mathlib.Core.Bool.{Bool, true, false, _&&_, cond, and-comm, and-assoc, or-comm}
+use mathlib.Core.Bool.{Bool, true, false, _&&_, cond, and-comm, and-assoc}
 use mathlib.Core.List.{List, [], _∷_}
 use mathlib.Core.Path.{_≡_, refl, sym, ap, ap₂, _∙_}
 use native.Mathlib.Decide.{ℕ-discrete, decLt}

@@ -36,6 +36,10 @@ section-bytes f k = refl
 pub section-length : (f : List ℕ) (k : ℕ) → length (section f k) ≡ size f k
 section-length f k = ap length (sym (section-bytes f k)) ∙ length-part f (offset f k) (size f k)
 
+-- each ends within the old file
+pub section-within : (f : List ℕ) → refusals standard f ≡ sound → (k : ℕ) → k < sections → offset f k + size f k ≤ length f
+section-within f ok = within standard f (accepted-pairs standard f ok)
+
 ruleset rows = (left-sound, right-sound, unless-sound, and-l, and-r)
 
 steps-whole : (f : List ℕ) → refusals standard f ≡ sound → size f 1 ≡ 3 * (size f 1 / 3)
@@ -79,10 +83,6 @@ module _ {f : List ℕ} {p : Plan} {w v : List ℕ} {base end i : ℕ} (k : Node
 
 -- ---- the whole file
 module _ {f : List ℕ} {p : Plan} (h : Planned f p) where
-  -- a section ends within the old file
-  pub section-within : (k : ℕ) → k < sections → offset f k + size f k ≤ length f
-  section-within = within standard f (accepted-pairs standard f (h .accepted))
-
   pub new-length : length (write (renewed f p)) ≡ 4 * sections + size f 0 + size f 1 + 3 * p .nodes + 1 + size f 3
   unfolding rewrite
   new-length =

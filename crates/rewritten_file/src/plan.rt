@@ -3,10 +3,11 @@ ghost use mathlib.Core.Path.{_≡_};
 ghost use Prim.Native.Nat.{_+_, _*_, _≤_, _<_};
 ghost use lib.ListN.{length};
 ghost use Rattle.case_model.specs.Areas.{Laid};
-ghost use Rattle.case_model.specs.Bytes.{offset, size, section};
+ghost use Rattle.case_model.specs.Bytes.{size, section};
 ghost use Rattle.case_model.specs.Case.{at, flat, write};
-ghost use Rattle.case_model.specs.Limits.{sections};
+ghost use Rattle.case_model.specs.Limits.{sections, standard};
 ghost use Rattle.case_model.specs.Rewriting.{renamed};
+ghost use Rattle.case_model.specs.Rows.{sound, refusals};
 ghost use Rattle.case_reader.specs.Read.{triple};
 ghost use Rattle.law_shapes.specs.Shapes.{placed, named};
 ghost use Rattle.rewritten_file.specs.Plans.{ByteTriple, Planned, renewed, ruleBytes};
@@ -127,7 +128,7 @@ fn put_rule(file: &[u8], plan: Plan, out: &mut [u8], base: usize) -> usize
 
 // Writes section k of the old file as it was.
 fn put_section(file: &[u8], k: usize, out: &mut [u8], base: usize) -> usize
-    requires { ⌜ (k < sections) × (offset (now file) k + size (now file) k ≤ length (now file)) × (base + size (now file) k ≤ length (now out)) ⌝ }
+    requires { ⌜ (refusals standard (now file) ≡ sound) × (k < sections) × (base + size (now file) k ≤ length (now out)) ⌝ }
     ensures { λ r. ⌜ Laid (now (out .entry)) (now (out .exit)) base r (section (now (file .entry)) k) ⌝ }
 {
     let start = section_offset(file, k);

@@ -6,7 +6,7 @@ use Rattle.case_model.specs.Bytes.{offset, size}
 use Rattle.case_model.proofs.Laying.{laid-as}
 use Rattle.case_reader.proofs.Readers.{there}
 use Rattle.case_writer.specs.Parts.{part}
-use Rattle.rewritten_file.proofs.NewFile.{section-bytes}
+use Rattle.rewritten_file.proofs.NewFile.{section-bytes, section-within}
 use Rattle.rewritten_file.proofs.plan.put_section.Statement.{statement}
 use Rattle.rewritten_file.proofs.plan.put_section.Tie as tie
 
@@ -22,9 +22,9 @@ put-part-requires c κs =
     let start = at-section-offset .before .before .before in
     let a = start .args in
     let pre = start .pre in
-    let o = there (pre .0) (offset (a .file .now) (a .k)) (at-section-offset .section-offset .ensures .is) in
-    let s = there (pre .0) (size (a .file .now) (a .k)) (c .before .section-size .ensures .is) in
-    (omega (arith, pre .1), omega (arith, pre .2))
+    let o = there (pre .1) (offset (a .file .now) (a .k)) (at-section-offset .section-offset .ensures .is) in
+    let s = there (pre .1) (size (a .file .now) (a .k)) (c .before .section-size .ensures .is) in
+    (omega (arith, section-within (a .file .now) (pre .0) (a .k) (pre .1)), omega (arith, pre .2))
 
 same-length : tie.Need-same-length
 same-length c = search needs
@@ -37,8 +37,8 @@ returns c =
     let start = at-section-offset .before .before .before in
     let a = start .args in
     let pre = start .pre in
-    let o = there (pre .0) (offset (a .file .now) (a .k)) (at-section-offset .section-offset .ensures .is) in
-    let s = there (pre .0) (size (a .file .now) (a .k)) (at-section-size .section-size .ensures .is) in
+    let o = there (pre .1) (offset (a .file .now) (a .k)) (at-section-offset .section-offset .ensures .is) in
+    let s = there (pre .1) (size (a .file .now) (a .k)) (at-section-size .section-size .ensures .is) in
     laid-as (ap₂ (part (a .file .now)) o s ∙ section-bytes (a .file .now) (a .k)) (at-put-part .put-part .ensures .0)
 
 pub put-section-spec : {M : Type 1} → statement M

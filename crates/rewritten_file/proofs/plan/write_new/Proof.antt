@@ -1,7 +1,7 @@
 -- `rewritten_file::plan::write_new` meets its contract: the head, two sections that stay, the rule and the section behind it, one after the other.
 use native.Mathlib.Omega.{arith}
 use borrow.Author.Needs.{needs}
-use Rattle.rewritten_file.proofs.NewFile.{section-length, section-within, new-length, new-short, rule-length, laid-new}
+use Rattle.rewritten_file.proofs.NewFile.{section-length, new-length, new-short, rule-length, laid-new}
 use Rattle.rewritten_file.proofs.plan.write_new.Statement.{statement}
 use Rattle.rewritten_file.proofs.plan.write_new.Tie as tie
 
@@ -56,7 +56,7 @@ put-section-requires : tie.Need-put-section-requires
 put-section-requires c κs =
     let start = of-labels c in
     let head = c .before .before .before .put-pairs .ensures in
-    (omega arith, section-within (start .pre .0) 0 (omega arith), omega (arith, new-length (start .pre .0), start .pre .1, head .ends, head .long))
+    (start .pre .0 .accepted, omega arith, omega (arith, new-length (start .pre .0), start .pre .1, head .ends, head .long))
 
 put-section-requires-2 : tie.Need-put-section-requires-2
 put-section-requires-2 c κs =
@@ -67,7 +67,7 @@ put-section-requires-2 c κs =
     let l = labels .put-section .ensures in
     let n = section-length (start .args .file .now) 0 in
     let long = new-length (start .pre .0) in
-    (omega arith, section-within (start .pre .0) 1 (omega arith), omega (arith, long, start .pre .1, head .ends, head .long, l .ends, l .long))
+    (start .pre .0 .accepted, omega arith, omega (arith, long, start .pre .1, head .ends, head .long, l .ends, l .long))
 
 put-rule-requires : tie.Need-put-rule-requires
 put-rule-requires c κs =
@@ -102,8 +102,8 @@ put-section-requires-3 c κs =
     let m = section-length f 1 in
     let k = rule-length (start .pre .0) in
     let long = new-length (start .pre .0) in (
+      start .pre .0 .accepted,
       omega arith,
-      section-within (start .pre .0) 3 (omega arith),
       omega (arith, long, start .pre .1, head .ends, head .long, l .ends, l .long, s .ends, s .long, r .ends, r .long),
     )
 
