@@ -27,13 +27,19 @@
 extern "C" {
 #endif
 
-/* The longest case, in bytes. An `out` of this length has room for every result. */
-#define HOIDRUL_LONGEST 6385
+/* The longest case, in bytes, with its padding. An `out` of this length has room for every result, which is packed and
+ * has at most 6,385 bytes. */
+#define HOIDRUL_LONGEST 6394
 
 /* Enough stack for a thread that calls, in bytes. */
 #define HOIDRUL_STACK 131072
 
-/* The sections of a case: a label byte a state; steps of three bytes (from, action, to); nodes of three bytes
+/* A case is a head of 16 bytes and four sections. For each section the head has its offset and its length, two bytes
+ * each, the low one first. The first section begins behind the head, any other where the one before ends or up to
+ * three bytes behind; these bytes, its padding, are 0. The file ends where the last section ends. A padded file gets
+ * the replies of the packed one, which has the same sections without padding, but for the offsets that opening tells.
+ *
+ * The sections: a label byte a state; steps of three bytes (from, action, to); nodes of three bytes
  * (kind, A, B) and the root's number; start states of one byte, strictly rising, perhaps none. Kinds: 0 tt, 1 ff,
  * 2 proposition A, 3 its complement, 4 variable A, 5 tau, 6 some step by action A leads into the set, 7 all such steps
  * do, 8 A or B, 9 A and B, 10 A;B, 11 mu A.B, 12 nu A.B, 13 some step whose action is in the group A leads into the
@@ -46,7 +52,7 @@ extern "C" {
 
 /* The numbers of refusals, the lowest tested first. Later versions may have more: let a switch have a default. */
 enum hoidrul_reason {
-    /* under 16 or over 6,385 bytes, or the pairs do not lay four sections end to end */
+    /* under 16 or over 6,394 bytes, or the pairs do not lay four sections in a row, at most three zero bytes apart */
     HOIDRUL_REASON_PAIRS = 1,
     /* no label, or more than 16 */
     HOIDRUL_REASON_LABELS = 2,
@@ -78,7 +84,7 @@ enum hoidrul_reason {
  * Refusals: 1 to 7, 8 if there is no such section. */
 uint64_t hoidrul_vet(const uint8_t *file, size_t len, size_t section);
 
-/* Opening. Answer: offset * 2^32 + length, both in bytes, of the section within `file`.
+/* Opening. Answer: offset * 2^32 + length, both in bytes, of the section within `file`, without padding.
  * Where hoidrul_vet refuses it answers 0, which is no section, since no offset is 0. */
 uint64_t hoidrul_open(const uint8_t *file, size_t len, size_t section);
 
@@ -93,11 +99,11 @@ uint64_t hoidrul_judge(const uint8_t *file, size_t len, uint16_t set, uint16_t *
 /* Classes: one byte a state, the lowest state alike to it. Refusals: 1 to 7, 13. */
 uint64_t hoidrul_classes(const uint8_t *file, size_t len, uint8_t *out, size_t room);
 
-/* Merging states s and t, in either order: the file of the case in which the lower stands for both, also in the list of
- * start states. Refusals: 1 to 7, 8 if s or t is beyond the case, 10, 13. */
+/* Merging states s and t, in either order: the packed file of the case in which the lower stands for both, also in the
+ * list of start states. Refusals: 1 to 7, 8 if s or t is beyond the case, 10, 13. */
 uint64_t hoidrul_merge(const uint8_t *file, size_t len, size_t s, size_t t, uint8_t *out, size_t room);
 
-/* Rewriting by a law, 1 to 9, at a node: the file of the case with that rule. Refusals: 1 to 7, 11 to 13. */
+/* Rewriting by a law, 1 to 9, at a node: the packed file of the case with that rule. Refusals: 1 to 7, 11 to 13. */
 uint64_t hoidrul_rewrite(const uint8_t *file, size_t len, size_t law, size_t node, uint8_t *out, size_t room);
 
 /* Of every reply but opening's: is it a refusal? If so, its number, of enum hoidrul_reason, and its place. */

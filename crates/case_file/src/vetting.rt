@@ -31,7 +31,7 @@ pub struct Case {
 
 impl Case {
     // In bytes.
-    pub const LONGEST: usize = 6385;
+    pub const LONGEST: usize = 6394;
 
     pub const SECTIONS: usize = case_reader::SECTIONS;
 

@@ -8,13 +8,13 @@ use native.Mathlib.Omega.{arith}
 use lib.ListN.{length, getD, take, length-append, length-map, List·getD-append}
 use lib.Seq.{getD-append-add, getD-at}
 use Rattle.case_model.specs.Bytes.{listOf, byteAt, wordAt, offset, size, section, word, pairs, joined, packed}
-use Rattle.case_model.specs.Case.{Case, tripleAt, read, flat, write, at}
+use Rattle.case_model.specs.Case.{Case, tripleAt, read, flat, parts, write, at}
 use Rattle.case_model.specs.Kinds.{Triple}
 use Rattle.case_model.proofs.Lists.{listOf-ext, listOf-getD}
 
 -- ---- the pairs
 -- a number is its low and its high byte, however large
-word-back : (x : ℕ) → x % 256 + 256 * (x / 256) ≡ x
+pub word-back : (x : ℕ) → x % 256 + 256 * (x / 256) ≡ x
 word-back x = omega arith
 
 -- a word past the first pair
@@ -48,7 +48,7 @@ length-pairs [] from = refl
 length-pairs (n ∷ l) from = omega (arith, length-pairs l (from + n))
 
 -- byte x of section k
-joined-at : (l : List (List ℕ)) (k x : ℕ) → x < length (getD l k []) → byteAt (joined l) (start 0 l k + x) ≡ getD (getD l k []) x 0
+pub joined-at : (l : List (List ℕ)) (k x : ℕ) → x < length (getD l k []) → byteAt (joined l) (start 0 l k + x) ≡ getD (getD l k []) x 0
 joined-at [] k x h = absurd (not-suc-le-zero h)
 joined-at (s ∷ l) zero x h = let e : 0 + 0 + x ≡ x = omega arith in rw e (List·getD-append s (joined l) 0 x h)
 joined-at (s ∷ l) (suc k) x h =
@@ -59,6 +59,10 @@ joined-at (s ∷ l) (suc k) x h =
 pub length-flat : (l : List Triple) → length (flat l) ≡ 3 * length l
 length-flat [] = refl
 length-flat (t ∷ l) = omega (arith, length-flat l)
+
+pub flat-append : (l m : List Triple) → flat (l ++ m) ≡ flat l ++ flat m
+flat-append [] m = refl
+flat-append (t ∷ l) m = ap (λ z. t .0 ∷ t .1 ∷ t .2 ∷ z) (flat-append l m)
 
 -- triple i, whatever follows the triples
 flat-at : (l : List Triple) (r : List ℕ) (i : ℕ) → i < length l → tripleAt (flat l ++ r) (3 * i) ≡ at l i
@@ -123,36 +127,31 @@ module _ (l : List (List ℕ)) where
 
 -- ---- a written case
 module _ (c : Case) where
-  -- its sections
-  abbrev pub parts : List (List ℕ)
-  parts = c .labels ∷ flat (c .steps) ∷ (flat (c .nodes) ++ (c .root ∷ [])) ∷ c .starts ∷ []
-
   pub length-write : length (write c) ≡ 17 + length (c .labels) + 3 * length (c .steps) + 3 * length (c .nodes) + length (c .starts)
   unfolding write
   length-write = simp (length-packed, length-append, length-flat) (omega arith)
 
   pub size-steps : size (write c) 1 ≡ 3 * length (c .steps)
   unfolding write
-  size-steps = packed-size parts 1 (omega arith) ∙ length-flat (c .steps)
+  size-steps = packed-size (parts c) 1 (omega arith) ∙ length-flat (c .steps)
 
   pub size-rule : size (write c) 2 ≡ 3 * length (c .nodes) + 1
   unfolding write
-  size-rule = packed-size parts 2 (omega arith) ∙ simp (length-append, length-flat)
+  size-rule = packed-size (parts c) 2 (omega arith) ∙ simp (length-append, length-flat)
 
   -- the byte after the nodes
-  root-back : byteAt (write c) (offset (write c) 2 + 3 * (size (write c) 2 / 3)) ≡ c .root
+  root-back : byteAt (section (write c) 2) (3 * (size (write c) 2 / 3)) ≡ c .root
   unfolding write
   root-back =
       let m : size (write c) 2 / 3 ≡ length (c .nodes) = omega (arith, size-rule) in
-      rw m (packed-at parts 2 (3 * length (c .nodes)) (omega arith) (omega (arith, size-rule, packed-size parts 2 (omega arith)))
-      ∙ getD-at (flat (c .nodes)) (c .root) [] 0 (3 * length (c .nodes)) (length-flat (c .nodes)))
+      rw (m, packed-section (parts c) 2 (omega arith)) (getD-at (flat (c .nodes)) (c .root) [] 0 (3 * length (c .nodes)) (length-flat (c .nodes)))
 
   pub read-write : read (write c) ≡ c
   unfolding write
   read-write = λ i. record {
-    labels = packed-section parts 0 (omega arith) i;
-    steps = packed-triples parts 1 (c .steps) [] (omega arith) (sym (append-nil (flat (c .steps)))) (omega arith) i;
-    nodes = packed-triples parts 2 (c .nodes) (c .root ∷ []) (omega arith) refl (omega arith) i;
+    labels = packed-section (parts c) 0 (omega arith) i;
+    steps = packed-triples (parts c) 1 (c .steps) [] (omega arith) (sym (append-nil (flat (c .steps)))) (omega arith) i;
+    nodes = packed-triples (parts c) 2 (c .nodes) (c .root ∷ []) (omega arith) refl (omega arith) i;
     root = root-back i;
-    starts = packed-section parts 3 (omega arith) i;
+    starts = packed-section (parts c) 3 (omega arith) i;
   }

@@ -9,14 +9,15 @@ use Rattle.flc.specs.Functions.{forAllFun, forSomeFun}
 use Rattle.flc.specs.Formula.{free}
 use Rattle.flc.specs.Nodes.{lower, formulaAt}
 use Rattle.flc.specs.Bisimulation.{met, bisimulation, alike}
-use Rattle.case_model.specs.Bytes.{listOf, chained, pairsHold, section, packed}
-use Rattle.case_model.specs.Case.{write, listed, table, nodeAt, rule}
+use Rattle.case_model.specs.Bytes.{listOf, padding, chained, pairsHold, section, packed}
+use Rattle.case_model.specs.Case.{flat, write, listed, table, nodeAt, rule}
 use Rattle.case_model.specs.Kinds.{Triple, kinds, kindAt}
 use Rattle.case_model.specs.Rows.{lowest, rootClosed, refusals}
 use Rattle.case_model.specs.Replies.{answers, refuses}
 use Rattle.case_model.proofs.Examples.{startingAt, caseOf, nodes, F}
 use Rattle.case_model.specs.Merging.{moved, movedSteps, selected, inOrder, isIn, merge, merging}
 use Rattle.case_model.specs.Rewriting.{change, renamed, rewrite, rewriting}
+use Rattle.case_model.specs.Book.{Edit, begun, book}
 
 -- one state without steps, and a rule
 abbrev of : List Triple → ℕ → List ℕ
@@ -34,7 +35,7 @@ rewrites :
     ≡ answers (of ((6, 0, 0) ∷ (6, 1, 0) ∷ (10, 0, 1) ∷ (10, 1, 0) ∷ (10, 0, 3) ∷ (8, 4, 2) ∷ []) 5))
     × (rewriting (of ((6, 0, 0) ∷ (6, 1, 0) ∷ (8, 0, 1) ∷ (10, 2, 0) ∷ []) 3) 6 3 99
     ≡ answers (of ((6, 0, 0) ∷ (6, 1, 0) ∷ (8, 0, 1) ∷ (10, 0, 0) ∷ (10, 1, 0) ∷ (8, 3, 4) ∷ []) 5))
-unfolding rewriting change rewrite write packed refusals pairsHold chained section
+unfolding rewriting change rewrite write packed refusals pairsHold chained padding section
     listOf lowest first forAll forSome both either rootClosed rule formulaAt lower nodeAt kindAt kinds free
 rewrites = (refl, refl, refl, refl, refl, refl, refl, refl)
 
@@ -45,9 +46,26 @@ rewrites-groups :
     × (renamed suc (13, 3, 0) ≡ (13, 3, 0))
     × (renamed suc (14, 3, 0) ≡ (14, 3, 0))
     × (rewriting (of ((13, 3, 0) ∷ (10, 0, 0) ∷ []) 1) 3 1 99 ≡ refuses 11 0)
-unfolding rewriting change rewrite write packed refusals pairsHold chained section
+unfolding rewriting change rewrite write packed refusals pairsHold chained padding section
     listOf lowest first forAll forSome both either rootClosed rule formulaAt lower nodeAt kindAt kinds free
 rewrites-groups = (refl, refl, refl, refl)
+
+-- case F with each section at a multiple of four
+abbrev aligned : List ℕ
+aligned =
+    16 ∷ 0 ∷ 2 ∷ 0 ∷ 20 ∷ 0 ∷ 6 ∷ 0 ∷ 28 ∷ 0 ∷ 31 ∷ 0 ∷ 60 ∷ 0 ∷ 0 ∷ 0
+    ∷ 0 ∷ 0 ∷ 0 ∷ 0
+    ∷ 0 ∷ 0 ∷ 1 ∷ 1 ∷ 1 ∷ 1 ∷ 0 ∷ 0
+    ∷ (flat nodes ++ (9 ∷ 0 ∷ []))
+
+-- an edit writes a packed file, and needs no room for padding; a refused one leaves the book's padded file as it is
+packs :
+    (rewriting aligned 9 8 54 ≡ refuses 13 0)
+    × (rewriting aligned 9 8 55 ≡ answers (caseOf (0 ∷ 0 ∷ []) ((0, 0, 1) ∷ (1, 1, 1) ∷ []) (set nodes 8 (8, 6, 7)) 9))
+    × (book (begun aligned) (Edit.rewrites 1 9 99 ∷ Edit.rewrites 9 8 54 ∷ []) .file ≡ aligned)
+unfolding book rewriting change rewrite write packed refusals pairsHold chained padding section
+    listOf lowest first forAll forSome both either rootClosed rule formulaAt lower nodeAt kindAt kinds free
+packs = (refl, refl, refl)
 
 -- rows 8 and 10, and two states with the same loop
 merges :
@@ -57,6 +75,6 @@ merges :
     × (merging (startingAt (0 ∷ 1 ∷ []) (5 ∷ 5 ∷ []) ((0, 3, 1) ∷ (1, 3, 1) ∷ []) ((5, 0, 0) ∷ []) 0) 1 0 99
     ≡ answers (startingAt (0 ∷ []) (5 ∷ []) ((0, 3, 0) ∷ []) ((5, 0, 0) ∷ []) 0))
 unfolding merging merge moved movedSteps selected inOrder isIn alike forSomeFun forAllFun bisimulation met implies has table listed
-    write packed refusals pairsHold chained section
+    write packed refusals pairsHold chained padding section
     listOf lowest first forAll forSome both either rootClosed rule formulaAt lower nodeAt kindAt kinds free
 merges = (refl, refl, refl, refl)

@@ -8,7 +8,7 @@ use lib.ListN.{replicate, set}
 use Rattle.flc.specs.Sets.{both, either, forAll, forSome, first}
 use Rattle.flc.specs.Formula.{atom, modal, free}
 use Rattle.flc.specs.Nodes.{leaf, lower, formulaAt}
-use Rattle.case_model.specs.Bytes.{listOf, chained, pairsHold, section, packed}
+use Rattle.case_model.specs.Bytes.{listOf, padding, chained, pairsHold, section, packed}
 use Rattle.case_model.specs.Case.{flat, write, nodeAt, rule}
 use Rattle.case_model.specs.Kinds.{Triple, kinds, kindAt, nodeOf}
 use Rattle.case_model.specs.Rows.{lowest, rootClosed, refusals}
@@ -64,7 +64,7 @@ rows :
     × (vetting (caseOf labels steps nodes 4) 0 ≡ refuses 7 0)
     × (vetting (caseOf labels steps nodes 5) 0 ≡ answers (record { states = 2; nodes = 10 }))
     × (vetting F 4 ≡ refuses 8 0)
-unfolding write packed vetting refusals pairsHold chained section
+unfolding write packed vetting refusals pairsHold chained padding section
     listOf lowest first forAll forSome both either rootClosed rule formulaAt lower nodeAt kindAt kinds free
 rows = (refl, refl, refl, refl, refl, refl, refl, refl, refl, refl, refl, refl, refl, refl)
 
@@ -86,20 +86,32 @@ groups :
     × (vetting (caseOf labels steps (set nodes 7 (13, 3, 1)) 9) 0 ≡ refuses 5 7)
     × (vetting (caseOf labels steps (set nodes 7 (14, 3, 1)) 9) 0 ≡ refuses 5 7)
     × (vetting (caseOf labels steps (set nodes 7 (15, 0, 0)) 9) 0 ≡ refuses 5 7)
-unfolding write packed vetting refusals pairsHold chained section
+unfolding write packed vetting refusals pairsHold chained padding section
     listOf lowest first forAll forSome both either rootClosed rule formulaAt lower nodeAt kindAt kinds free
 groups = (refl, refl, refl, refl, refl, refl)
 
--- row 1: each section begins where the one before ends, and the last ends with the file.
--- One state, no steps, τ, no start state; then a byte left between two sections, and one after the last; and the same case without a fourth pair
+-- row 1. A file of one state, no steps, the rule τ and no start state, by the offsets of its sections and the bytes behind the head
+abbrev laidOut : ℕ → ℕ → ℕ → ℕ → List ℕ → List ℕ
+laidOut o p q r l = o ∷ 0 ∷ 1 ∷ 0 ∷ p ∷ 0 ∷ 0 ∷ 0 ∷ q ∷ 0 ∷ 4 ∷ 0 ∷ r ∷ 0 ∷ 0 ∷ 0 ∷ l
+
+-- with as much padding as there can be
+abbrev widest : List ℕ
+widest = laidOut 16 20 23 30 (7 ∷ 0 ∷ 0 ∷ 0 ∷ 0 ∷ 0 ∷ 0 ∷ 5 ∷ 0 ∷ 0 ∷ 0 ∷ 0 ∷ 0 ∷ 0 ∷ [])
+
+-- padding between any two sections, an empty one too; and what is none: four bytes, a byte that is not 0, bytes before section 0 or after the last section,
+-- a section that begins too early; and a head of three pairs
 chains :
-    (vetting (16 ∷ 0 ∷ 1 ∷ 0 ∷ 17 ∷ 0 ∷ 0 ∷ 0 ∷ 17 ∷ 0 ∷ 4 ∷ 0 ∷ 21 ∷ 0 ∷ 0 ∷ 0 ∷ 0 ∷ 5 ∷ 0 ∷ 0 ∷ 0 ∷ []) 0 ≡ answers (record { states = 1; nodes = 1 }))
-    × (vetting (16 ∷ 0 ∷ 1 ∷ 0 ∷ 17 ∷ 0 ∷ 0 ∷ 0 ∷ 18 ∷ 0 ∷ 4 ∷ 0 ∷ 22 ∷ 0 ∷ 0 ∷ 0 ∷ 0 ∷ 0 ∷ 5 ∷ 0 ∷ 0 ∷ 0 ∷ []) 0 ≡ refuses 1 0)
-    × (vetting (16 ∷ 0 ∷ 1 ∷ 0 ∷ 17 ∷ 0 ∷ 0 ∷ 0 ∷ 17 ∷ 0 ∷ 4 ∷ 0 ∷ 21 ∷ 0 ∷ 0 ∷ 0 ∷ 0 ∷ 5 ∷ 0 ∷ 0 ∷ 0 ∷ 0 ∷ []) 0 ≡ refuses 1 0)
+    (vetting (laidOut 16 17 17 21 (0 ∷ 5 ∷ 0 ∷ 0 ∷ 0 ∷ [])) 0 ≡ answers (record { states = 1; nodes = 1 }))
+    × (vetting widest 0 ≡ answers (record { states = 1; nodes = 1 }))
+    × (vetting (laidOut 16 17 21 25 (0 ∷ 0 ∷ 0 ∷ 0 ∷ 0 ∷ 5 ∷ 0 ∷ 0 ∷ 0 ∷ [])) 0 ≡ refuses 1 0)
+    × (vetting (laidOut 16 17 20 24 (0 ∷ 0 ∷ 0 ∷ 1 ∷ 5 ∷ 0 ∷ 0 ∷ 0 ∷ [])) 0 ≡ refuses 1 0)
+    × (vetting (laidOut 17 18 18 22 (0 ∷ 0 ∷ 5 ∷ 0 ∷ 0 ∷ 0 ∷ [])) 0 ≡ refuses 1 0)
+    × (vetting (laidOut 16 17 17 21 (0 ∷ 5 ∷ 0 ∷ 0 ∷ 0 ∷ 0 ∷ [])) 0 ≡ refuses 1 0)
+    × (vetting (laidOut 16 16 17 21 (0 ∷ 5 ∷ 0 ∷ 0 ∷ 0 ∷ [])) 0 ≡ refuses 1 0)
     × (vetting (12 ∷ 0 ∷ 1 ∷ 0 ∷ 13 ∷ 0 ∷ 0 ∷ 0 ∷ 13 ∷ 0 ∷ 4 ∷ 0 ∷ 0 ∷ 5 ∷ 0 ∷ 0 ∷ 0 ∷ []) 0 ≡ refuses 1 0)
-unfolding vetting refusals pairsHold chained section
+unfolding vetting refusals pairsHold chained padding section
     listOf lowest first forAll forSome both either rootClosed rule formulaAt lower nodeAt kindAt kinds free
-chains = (refl, refl, refl, refl)
+chains = (refl, refl, refl, refl, refl, refl, refl, refl)
 
 -- row 4, start states: states of the case, strictly rising; a list out of order is told before a node that is wrong
 starts :
@@ -109,7 +121,7 @@ starts :
     × (vetting (startingAt (0 ∷ 1 ∷ 1 ∷ []) labels steps nodes 9) 0 ≡ refuses 4 0)
     × (vetting (startingAt (2 ∷ []) labels ((0, 8, 1) ∷ []) nodes 9) 0 ≡ refuses 3 0)
     × (vetting (startingAt (2 ∷ []) labels steps (set nodes 2 (10, 0, 2)) 9) 0 ≡ refuses 4 0)
-unfolding write packed vetting refusals pairsHold chained section
+unfolding write packed vetting refusals pairsHold chained padding section
     listOf lowest first forAll forSome both either rootClosed rule formulaAt lower nodeAt kindAt kinds free
 starts = (refl, refl, refl, refl, refl, refl)
 
@@ -122,15 +134,18 @@ rising :
     × (vetting (caseOf labels steps (set (set nodes 4 (12, 0, 3)) 5 (6, 8, 0)) 9) 0 ≡ refuses 5 5)
     × (vetting (caseOf labels steps (set nodes 4 (12, 0, 3)) 1) 0 ≡ refuses 6 9)
     × (vetting (caseOf labels steps nodes 4) 4 ≡ refuses 7 0)
-unfolding write packed vetting refusals pairsHold chained section
+unfolding write packed vetting refusals pairsHold chained padding section
     listOf lowest first forAll forSome both either rootClosed rule formulaAt lower nodeAt kindAt kinds free
 rising = (refl, refl, refl, refl, refl, refl, refl)
 
--- an opened section is its bytes; a refusal opens nothing
+-- an opened section is its bytes, without padding; a refusal opens nothing
 parts :
     (opening F 1 ≡ 0 ∷ 0 ∷ 1 ∷ 1 ∷ 1 ∷ 1 ∷ [])
+    × (opening widest 0 ≡ 7 ∷ [])
+    × (opening widest 1 ≡ [])
+    × (opening widest 2 ≡ 5 ∷ 0 ∷ 0 ∷ 0 ∷ [])
     × (opening (startingAt (0 ∷ 1 ∷ []) labels steps nodes 9) 3 ≡ 0 ∷ 1 ∷ [])
     × (opening F 4 ≡ [])
-unfolding write packed vetting opening refusals pairsHold chained section
+unfolding write packed vetting opening refusals pairsHold chained padding section
     listOf lowest first forAll forSome both either rootClosed rule formulaAt lower nodeAt kindAt kinds free
-parts = (refl, refl, refl)
+parts = (refl, refl, refl, refl, refl, refl)

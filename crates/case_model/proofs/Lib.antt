@@ -7,6 +7,7 @@ pub mod Laying
 pub mod Filling
 pub mod Sections
 pub mod Codec
+pub mod SectionBytes
 pub mod KindLines
 pub mod ModalKinds
 pub mod Valid
@@ -31,3 +32,6 @@ pub mod NineLaws
 pub mod Rewritten
 pub mod Demand
 pub mod Runs
+pub mod Padding
+pub mod Padded
+pub mod Longest

@@ -7,7 +7,7 @@ use mathlib.Core.Path.{_≡_, refl, sym, _∙_}
 use Rattle.flc.specs.Sets.{both, either, forAll, forSome, first, has, setOf}
 use Rattle.flc.specs.Formula.{free, meanAtom, mean}
 use Rattle.flc.specs.Nodes.{lower, formulaAt}
-use Rattle.case_model.specs.Bytes.{listOf, chained, pairsHold, section, packed}
+use Rattle.case_model.specs.Bytes.{listOf, padding, chained, pairsHold, section, packed}
 use Rattle.case_model.specs.Case.{write, table, nodeAt, rule}
 use Rattle.case_model.specs.Kinds.{kinds, kindAt}
 use Rattle.case_model.specs.Rows.{lowest, rootClosed, refusals}
@@ -36,7 +36,7 @@ words :
     × (startsHold (fileOf (1 ∷ [])) 8 ≡ false)
     × (startsHold (fileOf (0 ∷ 1 ∷ [])) 8 ≡ false)
     × (startsHold (fileOf []) 8 ≡ true)
-unfolding startsHold everyStart holds judging verdict meanAtom mean has setOf table write packed refusals pairsHold chained section
+unfolding startsHold everyStart holds judging verdict meanAtom mean has setOf table write packed refusals pairsHold chained padding section
     listOf lowest first forAll forSome both either rootClosed rule formulaAt lower nodeAt kindAt kinds free
 words = (refl, refl, refl, refl)
 

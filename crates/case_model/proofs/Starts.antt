@@ -1,11 +1,10 @@
--- The start states of a valid case are states, and strictly rising, so there are at most 16 of them.
+-- The start states of a valid case are states, and strictly rising, so there are at most as many of them.
 use Prim.Native.Nat.{ℕ, suc, _≤_, _<_}
-use native.Mathlib.Omega.{arith}
 use borrow.Author.Tests.{ltb-true}
 use lib.Dec.{ltb}
 use lib.ListN.{length}
 use Rattle.case_model.specs.Bytes.{byteAt}
-use Rattle.case_model.specs.Limits.{Limits, standard}
+use Rattle.case_model.specs.Limits.{Limits}
 use Rattle.case_model.specs.Case.{Case}
 use Rattle.case_model.specs.Valid.{Valid}
 -- checked first: a slip in a definition is told as a false equation there
@@ -19,6 +18,5 @@ module _ {most : Limits} {c : Case} (valid : Valid most c) where
   start-next : (i : ℕ) → suc i < length (c .starts) → byteAt (c .starts) i < byteAt (c .starts) (suc i)
   start-next i h = ltb-true _ _ (order-next (λ s. ltb s (length (c .labels))) ltb (byteAt (c .starts)) i (valid .starts (suc i) h))
 
--- in the limits of the entries
-pub starts-few : {c : Case} → Valid standard c → length (c .starts) ≤ 16
-starts-few {c} valid = rising-few (byteAt (c .starts)) (length (c .starts)) (start-next valid) 16 (λ i h. omega (arith, start-in valid i h, valid .table .few))
+  pub starts-few : length (c .starts) ≤ length (c .labels)
+  starts-few = rising-few (byteAt (c .starts)) (length (c .starts)) start-next (length (c .labels)) start-in

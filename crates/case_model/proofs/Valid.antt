@@ -1,13 +1,13 @@
 -- The case of an accepted file is valid.
 -- Nothing was found, so each row found nothing, so each part of its test passed.
-use Prim.Native.Nat.{ℕ}
+use Prim.Native.Nat.{ℕ, _%_}
 use mathlib.Core.Bool.{true}
 use mathlib.Core.List.{List}
 use mathlib.Core.Path.{_≡_}
-use borrow.Author.Tests.{leb-true, ltb-true, not-false}
+use borrow.Author.Tests.{eqb-true, leb-true, ltb-true, not-false}
 use lib.ListN.{length}
 use Rattle.case_model.specs.Limits.{Limits}
-use Rattle.case_model.specs.Bytes.{pairsHold}
+use Rattle.case_model.specs.Bytes.{size, pairsHold}
 use Rattle.case_model.specs.Case.{read}
 use Rattle.case_model.specs.Rows.{sound, stepWrong, startWrong, nodeWrong, binderWrong, refusals}
 use Rattle.case_model.specs.Valid.{Valid}
@@ -22,6 +22,15 @@ module _ (most : Limits) (f : List ℕ) (e : refusals most f ≡ sound) where
   pub accepted-pairs : pairsHold most f ≡ true
   unfolding refusals
   accepted-pairs = search rows depth 10
+
+  -- rows 3 and 4: steps are whole, and so are nodes, but for the root
+  pub steps-whole : size f 1 % 3 ≡ 0
+  unfolding refusals
+  steps-whole = eqb-true _ _ (search rows depth 10)
+
+  pub rule-whole : size f 2 % 3 ≡ 1
+  unfolding refusals
+  rule-whole = eqb-true _ _ (search rows depth 10)
 
   -- rows 2 to 7
   pub accepted-valid : Valid most (read f)

@@ -11,14 +11,15 @@ use lib.Dec.{ltb}
 use lib.ListN.{length, length-append, List·getD-eq-default}
 use Rattle.case_model.specs.Limits.{sections, variables, standard}
 use Rattle.case_model.specs.Bytes.{byteAt, pairs, joined, packed}
-use Rattle.case_model.specs.Case.{Case, flat, write, at}
+use Rattle.case_model.specs.Case.{Case, flat, parts, write, at}
 use Rattle.case_model.specs.Kinds.{Triple, unused, under, lowerNode, Kind, fits, kinds, kindAt, nodeHolds}
 use Rattle.case_model.proofs.Tests.{and-l, and-r}
 use Rattle.case_model.proofs.KindLines.{Line, constant, variable, pair, binder, line, kinds-few}
-use Rattle.case_model.proofs.Codec.{length-packed, parts, length-write}
+use Rattle.case_model.proofs.Codec.{length-packed}
 use Rattle.case_model.specs.Valid.{Valid}
-use Rattle.case_model.proofs.Steps.{step-in, steps-few}
-use Rattle.case_model.proofs.Starts.{start-in, starts-few}
+use Rattle.case_model.proofs.Steps.{step-in}
+use Rattle.case_model.proofs.Accepting.{write-short}
+use Rattle.case_model.proofs.Starts.{start-in}
 
 -- ---- lists of bytes
 record Bytes (l : List ℕ) : Type 0 where
@@ -81,7 +82,7 @@ unfolding write packed
 write-bytes c valid labels i =
     joint (pairs (4 * sections) (map length (parts c)))
     (bytes-pairs (parts c) (4 * sections)
-    (omega (arith, length-packed (parts c), length-write c, steps-few (valid .table), starts-few valid, valid .table .few, valid .rule .most)))
+    (omega (arith, length-packed (parts c), write-short c valid)))
     (joint (c .labels) (record { small = labels }) (joint (flat (c .steps)) (bytes-flat (c .steps) step)
     (joint (flat (c .nodes) ++ (c .root ∷ []))
     (joint (flat (c .nodes)) (bytes-flat (c .nodes) node) (more (omega (arith, valid .rule .root, valid .rule .most)) none))

@@ -31,7 +31,7 @@ read f = record {
   labels = section f 0;
   steps = triples f 1;
   nodes = triples f 2;
-  root = byteAt f (offset f 2 + 3 * (size f 2 / 3));
+  root = byteAt (section f 2) (3 * (size f 2 / 3));
   starts = section f 3;
 }
 
@@ -39,9 +39,12 @@ abbrev pub flat : List Triple → List ℕ
 flat [] = []
 flat (t ∷ l) = t .0 ∷ t .1 ∷ t .2 ∷ flat l
 
--- clause 1.15: the sections behind their head
+-- clause 1.15: the sections of a case, and its file: the sections behind their head
+abbrev pub parts : Case → List (List ℕ)
+parts c = c .labels ∷ flat (c .steps) ∷ (flat (c .nodes) ++ (c .root ∷ [])) ∷ c .starts ∷ []
+
 unfoldable pub write : Case → List ℕ
-write c = packed (c .labels ∷ flat (c .steps) ∷ (flat (c .nodes) ++ (c .root ∷ [])) ∷ c .starts ∷ [])
+write c = packed (parts c)
 
 -- ---- the state table
 -- (s, a, t) is in the list

@@ -14,3 +14,5 @@ pub mod Merging
 pub mod Rewriting
 pub mod Book
 pub mod Run
+pub mod Padding
+pub mod Longest

@@ -6,6 +6,10 @@ use Rattle.flc.specs.Formula.{actions}
 abbrev pub sections : ℕ
 sections = 4
 
+-- clause 1.2: how many bytes of padding there can be between two sections
+abbrev pub mostPadding : ℕ
+mostPadding = 3
+
 -- clauses 1.6 and 1.7: how many nodes, propositions, variables and groups of actions there can be
 abbrev pub mostNodes : ℕ
 mostNodes = 64
@@ -29,4 +33,4 @@ abbrev pub mostStates : ℕ
 mostStates = 16
 
 abbrev pub standard : Limits
-standard = record { longest = 6385; states = mostStates }
+standard = record { longest = 6394; states = mostStates }

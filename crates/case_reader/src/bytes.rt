@@ -4,7 +4,7 @@ ghost use Rattle.case_model.specs.Bytes.{byteAt, wordAt};
 ghost use Rattle.case_reader.specs.Read.{Is};
 
 // The byte at a position, 0 past the end.
-pub(crate) fn byte(file: &[u8], at: usize) -> usize
+pub fn byte(file: &[u8], at: usize) -> usize
     ensures { λ r. ⌜ Is (byteAt (now (file .entry)) at) 256 r ⌝ }
 {
     if at < file.len() {

@@ -7,6 +7,7 @@ mod parts;
 mod reach;
 mod steps;
 
+pub use bytes::byte;
 pub use frees::masks;
 pub use kinds::Atom;
 pub use kinds::Kind;

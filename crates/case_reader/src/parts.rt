@@ -132,5 +132,5 @@ pub fn node(file: &[u8], j: usize) -> Triple
 pub fn root(file: &[u8]) -> usize
     ensures { λ r. ⌜ Is (read (now (file .entry)) .root) 256 r ⌝ }
 {
-    byte(file, word(file, 8) + 3 * node_count(file))
+    byte_at(file, 2, 3 * node_count(file))
 }

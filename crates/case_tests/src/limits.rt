@@ -8,3 +8,6 @@ pub struct Limits {
 
 // How many nodes there can be, for every judge.
 pub const NODES: usize = 64;
+
+// How many bytes of padding there can be between two sections.
+pub const PADDING: usize = 3;

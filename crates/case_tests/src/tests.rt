@@ -1,10 +1,9 @@
-// The tests of rows 1 to 7.
+// The tests of rows 2 to 7.
 ghost use mathlib.Core.Path.{_≡_};
-ghost use Prim.Native.Nat.{_*_, _-_, _≤_, _<_};
+ghost use Prim.Native.Nat.{_-_, _≤_, _<_};
 ghost use lib.ListN.{length};
 ghost use Rattle.flc.specs.Sets.{forSome, first};
-ghost use Rattle.case_model.specs.Bytes.{chained, pairsHold};
-ghost use Rattle.case_model.specs.Limits.{sections, mostNodes};
+ghost use Rattle.case_model.specs.Limits.{mostNodes};
 ghost use Rattle.case_model.specs.Case.{read, at};
 ghost use Rattle.case_model.specs.Rows.{rises, stepWrong, startWrong, nodeWrong, binds, binderWrong, labelsHold, ruleHolds, startsRise, rootClosed};
 ghost use Rattle.case_reader.specs.Read.{triple};
@@ -12,7 +11,6 @@ ghost use Rattle.case_tests.specs.RowTests.{limitsOf, wrong};
 use crate::limits::Limits;
 use crate::limits::NODES;
 use case_reader::Kind;
-use case_reader::SECTIONS;
 use case_reader::Triple;
 use case_reader::is_binder;
 use case_reader::masks;
@@ -20,35 +18,11 @@ use case_reader::node;
 use case_reader::node_count;
 use case_reader::node_holds;
 use case_reader::root;
-use case_reader::section_offset;
 use case_reader::section_size;
 use case_reader::start;
 use case_reader::start_count;
 use case_reader::state_count;
 use case_reader::step;
-
-// Does each section begin where the one before ends, and the last end with the file?
-fn chained(file: &[u8]) -> bool
-    ensures { λ r. ⌜ r ≡ chained (now (file .entry)) (4 * sections) 0 sections ⌝ }
-{
-    let mut at = 4 * SECTIONS;
-    let mut k = 0;
-    while k < SECTIONS {
-        if section_offset(file, k) != at {
-            return false;
-        }
-        at += section_size(file, k);
-        k += 1;
-    }
-    at == file.len()
-}
-
-pub fn pairs_hold(file: &[u8], limits: Limits) -> bool
-    ensures { λ r. ⌜ r ≡ pairsHold (limitsOf limits) (now (file .entry)) ⌝ }
-{
-    let all = file.len();
-    (4 * SECTIONS <= all) & (all <= limits.longest) & chained(file)
-}
 
 pub fn labels_hold(file: &[u8], limits: Limits) -> bool
     ensures { λ r. ⌜ r ≡ labelsHold (limitsOf limits) (read (now (file .entry))) ⌝ }

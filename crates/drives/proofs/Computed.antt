@@ -12,7 +12,7 @@ use Rattle.flc.proofs.Tests.{both-left, both-right}
 use Rattle.flc.proofs.Packing.{look, pack, packed}
 use Rattle.flc.proofs.Evaluation.{loop, set, start, onMasks, eval, runNode, run, run-mean, run-rounds, run-approx}
 use Rattle.case_model.specs.Limits.{standard}
-use Rattle.case_model.specs.Bytes.{listOf, chained, pairsHold, section}
+use Rattle.case_model.specs.Bytes.{listOf, padding, chained, pairsHold, section}
 use Rattle.case_model.specs.Case.{Case, read, listed, table, nodeAt, rule}
 use Rattle.case_model.specs.Kinds.{kinds, kindAt}
 use Rattle.case_model.specs.Rows.{Found, sound, refused, lowest, rootClosed, refusals}
@@ -84,6 +84,6 @@ passes d t =
 -- every drive of the table passes
 pub drives-right : Each Right drives
 unfolding drives test isSound each takes look pack packed loop set start onMasks eval runNode run lower meanAtom stepsBy
-    both either implies forAll forSome among first has setOf free formulaAt listOf chained pairsHold section listed table
+    both either implies forAll forSome among first has setOf free formulaAt listOf chained padding pairsHold section listed table
     kinds kindAt nodeAt rule lowest rootClosed refusals
 drives-right = each-use test Right passes drives tt

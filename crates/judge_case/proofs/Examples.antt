@@ -10,7 +10,7 @@ use lib.ListN.{length}
 use Rattle.flc.specs.Sets.{both, either, forAll, forSome, first, has, setOf}
 use Rattle.flc.specs.Formula.{free}
 use Rattle.flc.specs.Nodes.{lower, formulaAt}
-use Rattle.case_model.specs.Bytes.{listOf, chained, pairsHold, section}
+use Rattle.case_model.specs.Bytes.{listOf, padding, chained, pairsHold, section}
 use Rattle.case_model.specs.Limits.{sections, standard}
 use Rattle.case_model.specs.Case.{nodeAt, rule}
 use Rattle.case_model.specs.Kinds.{kinds, kindAt}
@@ -53,7 +53,7 @@ print-F = ap (printed 2 true) judged
 
 -- node 4, νZ.Y;Z;Y, leaves Y free
 open-root : refusals standard (caseF 4) ≡ refused 7 0
-unfolding first refusals pairsHold chained section listOf lowest forAll forSome both either rootClosed rule formulaAt lower nodeAt kindAt kinds free
+unfolding first refusals pairsHold chained padding section listOf lowest forAll forSome both either rootClosed rule formulaAt lower nodeAt kindAt kinds free
 open-root = refl
 
 -- so the print is "refused 7 0"

@@ -1,31 +1,28 @@
 -- The sections of the merged case are parts of the file, the steps of the rows and the states of the set, and the lengths add up to that of the new file.
 -- Labels are a front and a back of the label section; the rule section is copied whole.
-use mathlib.Core.Bool.{true}
 use mathlib.Core.List.{List, [], _∷_, _++_}
 use mathlib.Core.Path.{_≡_, refl, sym, ap, ap₂, _∙_}
-use Prim.Native.Nat.{ℕ, zero, suc, _+_, _*_, _-_, _/_, _%_, _≤_, _<_}
+use Prim.Native.Nat.{ℕ, zero, suc, _+_, _*_, _-_, _/_, _≤_, _<_}
 use native.Mathlib.Nat.{not-suc-le-zero, le-of-suc-le-suc}
 use native.Mathlib.Omega.{arith}
-use borrow.Author.Tests.{eqb-true}
 use lib.ListN.{length, take, drop, length-append, length-drop}
 use lib.Seq.{length-take-le}
 use Rattle.case_model.specs.Areas.{Laid}
-use Rattle.case_model.specs.Limits.{sections, standard}
-use Rattle.case_model.specs.Bytes.{listOf, byteAt, offset, size, chained, pairsHold, section, pairs}
+use Rattle.case_model.specs.Limits.{standard}
+use Rattle.case_model.specs.Bytes.{listOf, byteAt, offset, size, section, pairs}
 use Rattle.case_model.specs.Case.{Case, read, flat, write}
 use Rattle.case_model.specs.Rows.{sound, refusals}
 use Rattle.case_model.specs.Merging.{movedSteps, inOrder, merge}
 use Rattle.case_model.proofs.Lists.{length-listOf, listOf-ext}
-use Rattle.case_model.proofs.Tests.{and-l, and-r}
-use Rattle.case_model.proofs.Sections.{within, left-sound, right-sound, unless-sound}
-use Rattle.case_model.proofs.Valid.{accepted-pairs, accepted-valid}
+use Rattle.case_model.proofs.Sections.{section-length, section-after, within}
+use Rattle.case_model.proofs.SectionBytes.{rule-bytes}
+use Rattle.case_model.proofs.Valid.{accepted-pairs, rule-whole, accepted-valid}
 use Rattle.case_model.specs.Valid.{Valid}
 use Rattle.case_model.proofs.Codec.{length-flat, length-write}
 use Rattle.case_model.proofs.Starts.{start-in}
 use Rattle.case_model.proofs.Laying.{laid-after, laid-as}
 use Rattle.case_reader.specs.StepRows.{relation, StepRows}
 use Rattle.case_writer.specs.Parts.{part}
-use Rattle.case_writer.proofs.Parts.{part-more, part-triples}
 use Rattle.case_writer.proofs.Packing.{ended, next, laid-packed}
 use Rattle.merged_file.specs.Merged.{total, Named, Measured, mergedFile}
 use Rattle.merged_file.specs.declared.writing.Sizes.{Sizes}
@@ -52,23 +49,6 @@ drop-listOf (suc r) (suc n) g h e =
     rw z (drop-listOf r n g (λ i. h (suc i)) (λ i. let q : suc (r + i) ≡ suc r + i = omega arith in rw q (e i)))
 
 -- ---- an accepted file
-ruleset rows = (left-sound, right-sound, unless-sound, and-l, and-r)
-
-rule-length : (f : List ℕ) → refusals standard f ≡ sound → size f 2 % 3 ≡ 1
-unfolding refusals
-rule-length f e = eqb-true _ _ (search rows depth 10)
-
-rule-after : (f : List ℕ) → pairsHold standard f ≡ true → offset f 0 + size f 0 ≤ offset f 2
-unfolding pairsHold chained
-rule-after f e =
-    let a : offset f 0 ≡ 4 * sections = eqb-true _ _ (search (and-l, and-r)) in
-    let b : offset f 2 ≡ 4 * sections + size f 0 + size f 1 = eqb-true _ _ (search (and-l, and-r)) in
-    omega arith
-
-labels-length : (f : List ℕ) → length (read f .labels) ≡ size f 0
-unfolding section
-labels-length f = length-listOf (size f 0) (λ i. byteAt f (offset f 0 + i))
-
 nodes-length : (f : List ℕ) → length (read f .nodes) ≡ size f 2 / 3
 nodes-length f = length-listOf (size f 2 / 3) _
 
@@ -77,7 +57,7 @@ module _ (f : List ℕ) (r : ℕ) (inside : r ≤ length (read f .labels)) where
       ≡ take r (read f .labels) ++ drop (suc r) (read f .labels)
   unfolding part section
   labels-are =
-      let n : length (read f .labels) ≡ size f 0 = labels-length f in
+      let n : length (read f .labels) ≡ size f 0 = section-length f 0 in
       let m : length (read f .labels) - suc r ≡ size f 0 - suc r = omega arith in
       let above : ℕ → ℕ = λ i. byteAt f (offset f 0 + r + 1 + i) in
       sym (ap₂ _++_ (take-listOf r (size f 0) _ (omega arith))
@@ -88,14 +68,11 @@ module _ (f : List ℕ) (r : ℕ) (inside : r ≤ length (read f .labels)) where
 
 module _ (f : List ℕ) (accepted : refusals standard f ≡ sound) where
   rule-is : part f (offset f 2) (size f 2) ≡ flat (read f .nodes) ++ (read f .root ∷ [])
-  rule-is =
-      let e : size f 2 ≡ suc (3 * (size f 2 / 3)) = omega (arith, rule-length f accepted) in
-      ap (part f (offset f 2)) e ∙ part-more f (offset f 2) (3 * (size f 2 / 3))
-      ∙ ap (λ l. l ++ (read f .root ∷ [])) (part-triples f (offset f 2) (size f 2 / 3))
+  unfolding part section
+  rule-is = rule-bytes f (rule-whole standard f accepted)
 
   rule-size : length (flat (read f .nodes) ++ (read f .root ∷ [])) ≡ size f 2
-  rule-size =
-      omega (arith, length-append (flat (read f .nodes)) (read f .root ∷ []), length-flat (read f .nodes), nodes-length f, rule-length f accepted)
+  rule-size = ap length (sym (rule-bytes f (rule-whole standard f accepted))) ∙ section-length f 2
 
 -- ---- the merged case
 module _ {f : List ℕ} {p : Pair} {rows : List ℕ} {set : ℕ} {z : Sizes} (m : Measured f p rows set z) where
@@ -135,7 +112,7 @@ module _ {f : List ℕ} {p : Pair} {rows : List ℕ} {set : ℕ} {z : Sizes} (m 
         m .rule,
         m .starts,
         nodes-length f,
-        rule-length f (m .named .accepted),
+        rule-whole standard f (m .named .accepted),
       )
 
   abbrev sizes : List ℕ
@@ -167,12 +144,13 @@ module _ {f : List ℕ} {p : Pair} {rows : List ℕ} {set : ℕ} {z : Sizes} (m 
   pub fits : Within
   fits =
       let ok = accepted-pairs standard f (m .named .accepted) in
+      let one = rule-whole standard f (m .named .accepted) in
       record {
-        first = omega (arith, rule-after f ok, within standard f ok 2 (omega arith), labels-length f, rule-length f (m .named .accepted));
+        first = omega (arith, section-after standard f ok 0 2 (omega arith) (omega arith), within standard f ok 2 (omega arith), section-length f 0, one);
         last = within standard f ok 2 (omega arith);
         few = valid .table .few;
         steps-few = order-few (relation rows) 2048;
-        rule-few = omega (arith, valid .rule .most, nodes-length f, rule-length f (m .named .accepted));
+        rule-few = omega (arith, valid .rule .most, nodes-length f, one);
         starts-few = members-few set;
       }
 

@@ -19,7 +19,7 @@ use Rattle.case_model.specs.Case.{Case, flat, listed}
 use Rattle.case_model.specs.Kinds.{Triple}
 use Rattle.case_model.specs.Merging.{moved, movedSteps, chosen, numbered, selected, isStep, inOrder}
 use Rattle.case_model.specs.Valid.{ValidTable}
-use Rattle.case_model.proofs.Codec.{length-flat}
+use Rattle.case_model.proofs.Codec.{length-flat, flat-append}
 use Rattle.case_model.proofs.Laying.{laid-after}
 use Rattle.case_model.proofs.Selected.{selected-ext, selected-more, selected-counted, selected-few, selected-room}
 use Rattle.case_model.proofs.Steps.{listed-in}
@@ -27,7 +27,6 @@ use Rattle.case_model.proofs.StepOrder.{listed-inOrder}
 use Rattle.case_model.proofs.MovedStates.{movedSteps-use, movedSteps-mk}
 use Rattle.case_reader.specs.StepRows.{relation, StepRows}
 use Rattle.case_reader.proofs.Marking.{marks-none, marks-more}
-use Rattle.case_writer.proofs.Parts.{flat-append}
 use Rattle.merged_steps.specs.Relation.{carried}
 
 -- ---- lists of the same steps

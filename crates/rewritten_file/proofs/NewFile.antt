@@ -1,10 +1,9 @@
 -- The new file, part by part: how long it is, what its parts are, and that they lie there once they are laid one after the other.
 -- Labels, steps and start states are sections of the old file; the steps are whole triples, because no refusal was found.
-use Prim.Native.Nat.{ℕ, _+_, _*_, _/_, _%_, _≤_, _<_}
+use Prim.Native.Nat.{ℕ, _+_, _*_, _/_, _≤_, _<_}
 use mathlib.Core.List.{List, [], _∷_}
 use mathlib.Core.Path.{_≡_, refl, sym, ap, _∙_}
 use native.Mathlib.Omega.{arith}
-use borrow.Author.Tests.{eqb-true}
 use lib.ListN.{length, length-append}
 use Rattle.case_model.specs.Areas.{Laid}
 use Rattle.case_model.specs.Bytes.{listOf, offset, size, section, pairs}
@@ -13,16 +12,15 @@ use Rattle.case_model.specs.Kinds.{Triple}
 use Rattle.case_model.specs.Limits.{sections, standard}
 use Rattle.case_model.specs.Rewriting.{rewrite}
 use Rattle.case_model.specs.Rows.{sound, refusals}
-use Rattle.case_model.proofs.Tests.{and-l, and-r}
 use Rattle.case_model.proofs.Laying.{laid-none, laid-as}
 use Rattle.case_model.proofs.Lists.{length-listOf, listOf-getD}
-use Rattle.case_model.proofs.Sections.{within, left-sound, right-sound, unless-sound}
-use Rattle.case_model.proofs.Valid.{accepted-pairs}
+use Rattle.case_model.proofs.Sections.{section-length, within}
+use Rattle.case_model.proofs.SectionBytes.{steps-bytes}
+use Rattle.case_model.proofs.Valid.{accepted-pairs, steps-whole}
 use Rattle.case_model.proofs.Codec.{length-flat, length-write}
-use Rattle.case_model.proofs.Starts.{starts-few}
-use Rattle.case_model.proofs.Steps.{steps-few}
+use Rattle.case_model.proofs.Accepting.{write-short}
 use Rattle.case_writer.specs.Parts.{part}
-use Rattle.case_writer.proofs.Parts.{length-part, part-triples, laid-triple}
+use Rattle.case_writer.proofs.Parts.{laid-triple}
 use Rattle.case_writer.proofs.Packing.{ended, next, laid-packed}
 use Rattle.rewritten_file.specs.Plans.{renewed, ruleBytes, Planned}
 use Rattle.rewritten_file.specs.declared.plan.Plan.{Plan}
@@ -33,23 +31,9 @@ pub section-bytes : (f : List ℕ) (k : ℕ) → part f (offset f k) (size f k) 
 unfolding part section
 section-bytes f k = refl
 
-pub section-length : (f : List ℕ) (k : ℕ) → length (section f k) ≡ size f k
-section-length f k = ap length (sym (section-bytes f k)) ∙ length-part f (offset f k) (size f k)
-
 -- each ends within the old file
 pub section-within : (f : List ℕ) → refusals standard f ≡ sound → (k : ℕ) → k < sections → offset f k + size f k ≤ length f
 section-within f ok = within standard f (accepted-pairs standard f ok)
-
-ruleset rows = (left-sound, right-sound, unless-sound, and-l, and-r)
-
-steps-whole : (f : List ℕ) → refusals standard f ≡ sound → size f 1 ≡ 3 * (size f 1 / 3)
-unfolding refusals
-steps-whole f e =
-    let third : size f 1 % 3 ≡ 0 = eqb-true _ _ (search rows depth 10) in
-    omega arith
-
-steps-bytes : (f : List ℕ) → refusals standard f ≡ sound → section f 1 ≡ flat (triples f 1)
-steps-bytes f e = sym (section-bytes f 1) ∙ ap (part f (offset f 1)) (steps-whole f e) ∙ part-triples f (offset f 1) (size f 1 / 3)
 
 -- ---- the new nodes, laid one by one
 -- the first i of them are laid, up to `end`
@@ -87,11 +71,11 @@ module _ {f : List ℕ} {p : Plan} (h : Planned f p) where
   unfolding rewrite
   new-length =
       let s : length (triples f 1) ≡ size f 1 / 3 = length-listOf (size f 1 / 3) _ in
-      omega (arith, length-write (renewed f p), section-length f 0, section-length f 3, steps-whole f (h .accepted), h .nodes)
+      omega (arith, length-write (renewed f p), section-length f 0, section-length f 3, steps-whole standard f (h .accepted), h .nodes)
 
   -- so its pairs are numbers of two bytes
   pub new-short : length (write (renewed f p)) < 65536
-  new-short = omega (arith, length-write (renewed f p), steps-few (valid h .table), starts-few (valid h), valid h .table .few, valid h .rule .most)
+  new-short = omega (arith, write-short (renewed f p) (valid h))
 
   pub rule-length : 3 * p .nodes + 1 ≡ length (ruleBytes (renewed f p))
   rule-length = simp (length-append, length-flat) (omega (arith, h .nodes))
@@ -102,7 +86,7 @@ module _ {f : List ℕ} {p : Plan} (h : Planned f p) where
       → Laid c d at₂ at₃ (ruleBytes (renewed f p)) → Laid d u at₃ end (section f 3) → Laid w u 0 end (write (renewed f p))
   unfolding write rewrite
   laid-new {n₀} {n₁} {n₃} q₀ q₁ q₃ head labels steps rule starts =
-      let s : section f 1 ≡ flat (triples f 1) = steps-bytes f (h .accepted) in
+      let s : section f 1 ≡ flat (triples f 1) = steps-bytes f (steps-whole standard f (h .accepted)) in
       laid-packed (n₀ ∷ n₁ ∷ (3 * p .nodes + 1) ∷ n₃ ∷ []) head
       (next (q₀ ∙ sym (section-length f 0)) labels
       (next (q₁ ∙ sym (section-length f 1) ∙ ap length s) (laid-as s steps)

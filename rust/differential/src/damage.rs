@@ -1,4 +1,5 @@
 //! Valid files with one fault, each with the refusal that the fault must get.
+mod gaps;
 mod nodes;
 mod pairs;
 mod sections;
@@ -6,6 +7,7 @@ mod sections;
 pub use pairs::without_starts;
 
 use crate::generate::case_where;
+use crate::padding;
 use crate::rng::Rng;
 use plain::{Case, Refusal};
 use std::fmt::Debug;
@@ -17,7 +19,7 @@ pub struct Damaged {
 
 pub type Damage = fn(&mut Rng) -> Damaged;
 
-pub const DAMAGES: [(&str, Damage); 25] = [
+pub const DAMAGES: [(&str, Damage); 30] = [
     ("cut", pairs::cut),
     ("lengthened", pairs::lengthened),
     ("too long", pairs::too_long),
@@ -26,6 +28,11 @@ pub const DAMAGES: [(&str, Damage); 25] = [
     ("pairs right modulo 65,536", pairs::wrapped),
     ("three pairs", pairs::three),
     ("start states cut", pairs::starts_cut),
+    ("gap too wide", gaps::wide),
+    ("padding not 0", gaps::not_zero),
+    ("sections overlap", gaps::overlap),
+    ("padding before section 0", gaps::before_labels),
+    ("padding after section 3", gaps::behind_starts),
     ("label count", sections::label_count),
     ("step section length", sections::step_length),
     ("step range", sections::step_range),
@@ -59,6 +66,11 @@ pub fn expect_refusals<T: Debug + PartialEq>(
             assert_eq!(reply(&mut rng, &file), Err(refusal), "{name}: {file:?}");
         }
     }
+}
+
+/// A case with a fault of row 2 or a later one, packed or padded.
+fn damaged_case(rng: &mut Rng, case: &Case, number: u32, place: usize) -> Damaged {
+    damaged(padding::file(rng, case), number, place)
 }
 
 fn damaged(file: Vec<u8>, number: u32, place: usize) -> Damaged {

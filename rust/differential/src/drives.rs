@@ -1,7 +1,7 @@
 //! The cases of the folder `cases`, as data: the drives of docs/SPECIFICATION.md, 10.1, and a label
 //! printer's.
-use crate::printer;
-use plain::{Case, Triple};
+use crate::{padding, printer};
+use plain::{write, Case, Triple};
 use std::fs;
 use std::path::{Path, PathBuf};
 
@@ -14,8 +14,24 @@ pub fn read(name: &str) -> Vec<u8> {
     fs::read(folder().join(name)).expect("a file of the folder cases")
 }
 
+/// The file whose sections begin at multiples of four.
+pub const ALIGNED: &str = "aligned_sections.case";
+
+/// What stands in the file of this name: the case's packed file, but for one.
+pub fn file(name: &str, case: &Case) -> Vec<u8> {
+    if name == ALIGNED {
+        padding::aligned(case)
+    } else {
+        write(case)
+    }
+}
+
 /// Each case with the name of its file.
 pub fn drives() -> Vec<(&'static str, Case)> {
+    [of_the_specification(), of_the_printer()].concat()
+}
+
+fn of_the_specification() -> Vec<(&'static str, Case)> {
     vec![
         ("f.case", f()),
         ("two_wheels.case", wheels(3, 4)),
@@ -42,6 +58,11 @@ pub fn drives() -> Vec<(&'static str, Case)> {
             leaf_on_two_states((13, 0b1000_0000, 0)),
         ),
         ("one_action.case", leaf_on_two_states((6, 7, 0))),
+    ]
+}
+
+fn of_the_printer() -> Vec<(&'static str, Case)> {
+    vec![
         ("feed_and_back.case", printer::feed_and_back()),
         (
             "no_more_back_than_fed.case",
@@ -53,6 +74,7 @@ pub fn drives() -> Vec<(&'static str, Case)> {
             "pulled_back_fed_again.case",
             printer::pulled_back_fed_again(),
         ),
+        (ALIGNED, printer::pulled_back_fed_again()),
         ("tight_at_any_current.case", printer::tight_at_any_current()),
     ]
 }
@@ -149,6 +171,9 @@ fn leaf_on_two_states(node: Triple) -> Case {
 fn one_state(nodes: &[Triple]) -> Case {
     case(&[0], &[], nodes)
 }
+
+/// The bytes of the longest packed file: the pairs, the labels, the steps, the rule, the start states.
+pub const LONGEST_PACKED: usize = 16 + 16 + 3 * 2048 + (3 * 64 + 1) + 16;
 
 /// The longest case: 16 states, every step that there can be, 64 nodes, every state a start state.
 pub fn longest() -> Case {

@@ -1,5 +1,6 @@
 //! The comparison of judging by the two checkers, every lent word included, and of the word on the
 //! start states.
+use crate::padding::{numbered, write_padded};
 use crate::replies::in_plain;
 use crate::rng::Rng;
 use plain::{Case, Refusal, Verdict};
@@ -49,12 +50,12 @@ pub fn proved_starts(file: &[u8], words: usize) -> Result<bool, Refusal> {
 }
 
 /// Judges a valid case on these sets by the proved library, compares with the root's function by
-/// the plain checker, and returns the rounds.
+/// the plain checker, and returns the rounds. The file's padding is another for each set.
 pub fn compare_sets(case: &Case, sets: &[u16]) -> u64 {
-    let file = plain::write(case);
-    let words = needed(&file);
+    let words = needed(&plain::write(case));
     let root = plain::meaning(case);
     for &set in sets {
+        let file = write_padded(case, numbered(set.into()));
         let expected = Verdict {
             states: root.function[usize::from(set)].clone(),
             rounds: root.rounds,
@@ -65,11 +66,12 @@ pub fn compare_sets(case: &Case, sets: &[u16]) -> u64 {
 }
 
 /// Judges a valid case of one or two states on every set by both checkers, compares with meet and
-/// join of all monotone functions, and returns the rounds.
+/// join of all monotone functions, and returns the rounds. The four sets have gaps of 0 to 3 bytes.
 pub fn compare_with_all_functions(case: &Case) -> u64 {
-    let (file, states) = (plain::write(case), case.labels.len());
+    let states = case.labels.len();
     let (values, rounds) = plain::meaning_by_all_functions(case);
     for set in 0..1 << states {
+        let file = write_padded(case, [set.into(); 3]);
         let value = values[usize::from(set)];
         let states = (0..states).map(|s| value >> s & 1 == 1).collect();
         let expected = Ok(Verdict { states, rounds });

@@ -14,6 +14,7 @@ pub mod generate;
 pub mod groups;
 pub mod judging;
 pub mod measure;
+pub mod padding;
 pub mod printed;
 pub mod printer;
 pub mod replies;

@@ -1,16 +1,18 @@
 //! Files of which only the two checkers can tell what they get, and section numbers.
 use crate::generate::case;
 use crate::groups::{group, has_group};
+use crate::padding::{self, gaps, padded, padding_of, sections, write_padded, Gaps};
 use crate::rng::Rng;
 use plain::kinds::{self, VARIABLE};
 use plain::{pack, write, Shape, Triple, PAIRS_LENGTH};
 
 pub type Strange = fn(&mut Rng) -> Vec<u8>;
 
-pub const STRANGE: [Strange; 6] = [
+pub const STRANGE: [Strange; 7] = [
     bytes_changed,
     sections_swapped,
     sections_cut_elsewhere,
+    any_gaps,
     any_sections,
     any_nodes,
     any_bytes,
@@ -39,7 +41,8 @@ pub fn section(rng: &mut Rng) -> usize {
 
 /// A few bytes of a valid file are others, often by one.
 fn bytes_changed(rng: &mut Rng) -> Vec<u8> {
-    let mut file = write(&case(rng));
+    let case = case(rng);
+    let mut file = padding::file(rng, &case);
     for _ in 0..rng.within(1..=3) {
         let back = if rng.one_in(2) { 193 } else { file.len() };
         let at = file.len() - rng.within(1..=back.min(file.len()));
@@ -55,13 +58,12 @@ fn bytes_changed(rng: &mut Rng) -> Vec<u8> {
 
 fn sections_swapped(rng: &mut Rng) -> Vec<u8> {
     let file = write(&case(rng));
-    let part = |section| &file[plain::open(&file, section).expect("a valid case")];
-    let mut parts = [0, 1, 2, 3].map(part);
+    let mut parts = sections(&file).map(|part| &file[part]);
     for _ in 0..rng.within(1..=3) {
         let second = rng.within(1..=3);
         parts.swap(rng.below(second), second);
     }
-    pack(&parts)
+    padded(&pack(&parts), gaps(rng))
 }
 
 /// Right pairs over the bytes of a valid file, with the borders moved a little.
@@ -76,7 +78,20 @@ fn sections_cut_elsewhere(rng: &mut Rng) -> Vec<u8> {
     let third = moved(body.len() - case.starts.len()).max(second);
     let (table, rest) = body.split_at(second);
     let (rule, starts) = rest.split_at(third - second);
-    pack(&[&table[..first], &table[first..], rule, starts])
+    let packed = pack(&[&table[..first], &table[first..], rule, starts]);
+    padded(&packed, gaps(rng))
+}
+
+/// Sections of a valid file up to five bytes apart, of which at times one is not 0.
+fn any_gaps(rng: &mut Rng) -> Vec<u8> {
+    let case = case(rng);
+    let gaps: Gaps = [0; 3].map(|_| rng.pick(&[0, 0, 1, 1, 2, 2, 3, 3, 4, 5]));
+    let mut file = write_padded(&case, gaps);
+    let padding = padding_of(&file);
+    if !padding.is_empty() && rng.one_in(4) {
+        file[rng.pick(&padding)] = rng.byte_below(3);
+    }
+    file
 }
 
 /// Right pairs, sections of any length near the limits, small bytes.
@@ -89,7 +104,7 @@ fn any_sections(rng: &mut Rng) -> Vec<u8> {
     let steps = section(&[0, 0, 0, 0, 1, 2, 3, 4, 6, 9]);
     let rule = section(&[0, 1, 2, 3, 4, 5, 6, 7, 10, 190, 193, 194, 196, 769]);
     let starts = section(&[0, 0, 0, 0, 1, 1, 2, 3, 16, 17]);
-    pack(&[&labels, &steps, &rule, &starts])
+    padded(&pack(&[&labels, &steps, &rule, &starts]), gaps(rng))
 }
 
 /// A right state table under nodes that are mostly in range.
@@ -98,7 +113,7 @@ fn any_nodes(rng: &mut Rng) -> Vec<u8> {
     let count = rng.within(1..=8);
     case.nodes = (0..count).map(|number| any_node(rng, number)).collect();
     case.root = rng.byte_below(count);
-    write(&case)
+    padding::file(rng, &case)
 }
 
 fn any_node(rng: &mut Rng, number: usize) -> Triple {
@@ -115,7 +130,7 @@ fn any_node(rng: &mut Rng, number: usize) -> Triple {
 /// Bytes without meaning; every other file begins as a case does.
 fn any_bytes(rng: &mut Rng) -> Vec<u8> {
     const LENGTHS: [usize; 14] = [
-        0, 1, 4, 12, 15, 16, 17, 55, 100, 6384, 6385, 6386, 65_535, 70_000,
+        0, 1, 4, 12, 15, 16, 17, 55, 100, 6393, 6394, 6395, 65_535, 70_000,
     ];
     let length = if rng.one_in(4) {
         rng.pick(&LENGTHS)

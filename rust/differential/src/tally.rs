@@ -1,5 +1,6 @@
 //! The comparison of the two checkers, and a count of what was compared.
 use crate::groups::has_group;
+use crate::padding::{gaps_of, PACKED};
 use crate::replies::in_plain;
 use plain::Refusal;
 use std::hint::black_box;
@@ -18,6 +19,8 @@ pub struct Tally {
     pub with_groups: usize,
     /// Those about a case that has start states.
     pub with_starts: usize,
+    /// Those about a padded file.
+    pub with_padding: usize,
     /// By number; index 0 is unused.
     pub refusals: [usize; 14],
     /// Those of them whose place is not 0.
@@ -36,6 +39,7 @@ impl Tally {
                 let has_groups = case.nodes.iter().any(|&node| has_group(node));
                 self.with_groups += usize::from(has_groups);
                 self.with_starts += usize::from(!case.starts.is_empty());
+                self.with_padding += usize::from(gaps_of(file) != PACKED);
             }
             Err(refusal) => {
                 self.refusals[refusal.number as usize] += 1;

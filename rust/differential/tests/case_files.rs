@@ -1,5 +1,6 @@
 //! The files of the folder `cases`.
-use differential::drives::{drives, folder, read};
+use differential::drives::{self, drives, folder, read, ALIGNED};
+use differential::printed::wanted;
 use differential::tally::compare;
 use std::fs;
 
@@ -13,6 +14,36 @@ const F: [u8; 55] = [
     9, // root
 ];
 
+/// The 89 bytes of the aligned file: each section begins at a multiple of four.
+const ALIGNED_BYTES: [u8; 89] = [
+    16, 0, 6, 0, 24, 0, 21, 0, 48, 0, 37, 0, 88, 0, 1, 0, // pairs
+    1, 0, 0, 1, 0, 0, // labels
+    0, 0, // padding
+    0, 1, 1, 1, 0, 0, 1, 1, 2, 2, 0, 1, 3, 1, 4, 4, 0, 3, 4, 0, 5, // steps
+    0, 0, 0, // padding
+    4, 0, 0, 5, 0, 0, 6, 0, 0, 7, 0, 0, 7, 1, 0, 2, 0, 0, // nodes 0 to 5
+    10, 4, 0, 9, 3, 2, 10, 6, 7, 9, 1, 8, 12, 0, 9, 10, 10, 5,  // nodes 6 to 11
+    11, // root
+    0, 0, 0, // padding
+    0, // start state
+];
+
+#[test]
+fn the_aligned_file_has_its_bytes() {
+    assert_eq!(read(ALIGNED), ALIGNED_BYTES);
+}
+
+/// It prints what the packed file prints. The root is a chop, so that there are no rounds.
+#[test]
+fn the_aligned_file_is_another_one_padded() {
+    let packed = read("pulled_back_fed_again.case");
+    assert_eq!(packed.len(), 81);
+    assert_eq!(plain::parse(&packed), plain::parse(&ALIGNED_BYTES));
+    let print = "states 6\nrounds 0\n0 yes\n1 no\n2 no\n3 no\n4 no\n5 no\nstarts yes\n";
+    assert_eq!(wanted(&packed), print);
+    assert_eq!(wanted(&ALIGNED_BYTES), print);
+}
+
 #[test]
 fn case_f_has_its_bytes() {
     assert_eq!(read("f.case"), F);
@@ -21,12 +52,13 @@ fn case_f_has_its_bytes() {
 #[test]
 fn files_are_those_of_the_drives() {
     for (name, case) in drives() {
+        assert_eq!(read(name), drives::file(name, &case), "{name}");
         assert_eq!(plain::parse(&read(name)), Ok(case), "{name}");
     }
 }
 
 #[test]
-fn every_file_is_accepted_and_written_back() {
+fn every_file_is_accepted() {
     let mut count = 0;
     for entry in fs::read_dir(folder()).unwrap() {
         let path = entry.unwrap().path();
@@ -40,7 +72,6 @@ fn every_file_is_accepted_and_written_back() {
                 let counts = (case.labels.len(), case.nodes.len());
                 assert_eq!(compare(&file, section), Ok(counts), "{path:?}");
             }
-            assert_eq!(plain::write(&case), file, "{path:?}");
             count += 1;
         }
     }

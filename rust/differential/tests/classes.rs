@@ -5,7 +5,7 @@ use differential::edits::{classes, rooms};
 use differential::replies::refused;
 use differential::rng::Rng;
 use differential::strange::STRANGE;
-use differential::{alike_tables, drives, generate};
+use differential::{alike_tables, drives, generate, padding};
 use plain::{classes_by_all_relations, write, Triple};
 
 #[test]
@@ -47,7 +47,8 @@ fn tables_with_alike_states() {
     let (mut fewer, mut all) = (0, 0);
     for i in 0..1_500 {
         let states = 1 + i % 16;
-        let found = classes(&write(&alike_tables::case(&mut rng, states)), 16).unwrap();
+        let case = alike_tables::case(&mut rng, states);
+        let found = classes(&padding::file(&mut rng, &case), 16).unwrap();
         assert_eq!(found.len(), states);
         let count = (0..states).filter(|&s| usize::from(found[s]) == s).count();
         fewer += usize::from(count < states);
@@ -62,7 +63,8 @@ fn small_tables_by_all_relations() {
     for i in 0..300 {
         let case = alike_tables::case(&mut rng, 1 + i % 3);
         let expected = classes_by_all_relations(&case);
-        assert_eq!(classes(&write(&case), 3), Ok(expected), "{case:?}");
+        let file = padding::file(&mut rng, &case);
+        assert_eq!(classes(&file, 3), Ok(expected), "{case:?}");
     }
 }
 
@@ -70,7 +72,8 @@ fn small_tables_by_all_relations() {
 fn tables_of_any_kind() {
     let mut rng = Rng::new(620);
     for _ in 0..500 {
-        let file = write(&generate::case(&mut rng));
+        let case = generate::case(&mut rng);
+        let file = padding::file(&mut rng, &case);
         assert!(classes(&file, 20).is_ok());
     }
 }
@@ -79,7 +82,8 @@ fn tables_of_any_kind() {
 fn areas_of_every_length() {
     let mut rng = Rng::new(630);
     for i in 0..64 {
-        let file = write(&alike_tables::case(&mut rng, 1 + i % 16));
+        let case = alike_tables::case(&mut rng, 1 + i % 16);
+        let file = padding::file(&mut rng, &case);
         let result = classes(&file, 16).unwrap();
         rooms(&file, &result, classes);
     }

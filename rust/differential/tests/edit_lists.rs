@@ -1,9 +1,12 @@
 //! Whole lists of edits, refused ones included, by the library and by the plain book, from fixed
 //! seeds. At the end each state of the first case must hold if and only if the state standing for
-//! it does, and every start state of the last case if and only if every one of the first did.
+//! it does, and every start state of the last case if and only if every one of the first did. The
+//! first file may be padded; refusals leave it so, and what the first accepted edit writes is packed.
 use differential::edits::{turn, LONGEST};
 use differential::groups::has_group;
 use differential::judging::{all_states, needed, proved, proved_starts};
+use differential::padding::{self, gaps_of, padding_of, PACKED};
+use differential::replies::refused;
 use differential::rng::Rng;
 use differential::{alike_tables, chops, drives, generate};
 use plain::{write, Book, Case, Edit, Shape, Triple};
@@ -24,13 +27,22 @@ struct Count {
     starts: [usize; 2],
     /// Merges of a start state into another state.
     starts_merged: usize,
+    /// Edits of a file that is still padded: those refused, and those accepted.
+    padded: [usize; 2],
 }
 
 impl Count {
+    /// An edit of this file that left it as it was.
+    fn refused(&mut self, file: &[u8], number: u32) {
+        self.refusals[number as usize] += 1;
+        self.padded[0] += usize::from(gaps_of(file) != PACKED);
+    }
+
     /// An edit of this file that wrote another.
     fn accepted(&mut self, file: &[u8], edit: Edit, written: &[u8]) {
         let case = plain::parse(file).expect("a case");
         let nodes = case.nodes;
+        self.padded[1] += usize::from(gaps_of(file) != PACKED);
         let groups = |nodes: &[Triple]| nodes.iter().any(|&node| has_group(node));
         match edit {
             Edit::Merge { s, t } => {
@@ -43,7 +55,8 @@ impl Count {
                 self.rewrites += 1;
                 let (lower, higher) = nodes.split_at(node);
                 let between = groups(lower) && groups(higher);
-                self.between_groups += usize::from(between && written.len() > file.len());
+                let more = plain::vet(written, 0).expect("a case").1 > nodes.len();
+                self.between_groups += usize::from(between && more);
             }
         }
     }
@@ -76,12 +89,14 @@ fn run(rng: &mut Rng, first: &[u8], count: &mut Count) {
         let edit = draw(rng, &file);
         let room = room(rng, &file);
         match (turn(&mut book, &file, edit, room), edit) {
-            (Err(refusal), _) => count.refusals[refusal.number as usize] += 1,
+            (Err(refusal), _) => count.refused(&file, refusal.number),
             (Ok(written), edit) => {
+                assert_eq!(gaps_of(&written), PACKED, "{edit:?} of {file:?}");
                 count.accepted(&file, edit, &written);
                 file = written;
             }
         }
+        // A refusal has left it, with its padding.
         assert_eq!(file, book.file());
     }
     let (start, end) = (verdict(first), verdict(&file));
@@ -138,10 +153,11 @@ fn rewrite_at_two(rng: &mut Rng, case: &Case) -> Edit {
     }
 }
 
-/// Mostly enough, else around what a result may need.
+/// Mostly enough, else around what a result may need, which is packed.
 fn room(rng: &mut Rng, file: &[u8]) -> usize {
+    let packed = file.len() - padding_of(file).len();
     match rng.below(8) {
-        0 => rng.within(file.len() - 10..=file.len() + 6),
+        0 => rng.within(packed - 10..=packed + 6),
         1 => rng.below(file.len()),
         _ => LONGEST,
     }
@@ -165,7 +181,8 @@ fn alike_states() {
         // A verdict of all states or none tells little: a few draws look for another.
         let draws: Vec<Case> = (0..6).map(|_| case(&mut rng, i)).collect();
         let mixed = draws.iter().find(|case| is_mixed(&verdict(&write(case))));
-        run(&mut rng, &write(mixed.unwrap_or(&draws[0])), &mut count);
+        let first = padding::file(&mut rng, mixed.unwrap_or(&draws[0]));
+        run(&mut rng, &first, &mut count);
     }
     println!("{count:?}");
     assert!(count.merges >= 200 && count.rewrites >= 1_000, "{count:?}");
@@ -177,6 +194,37 @@ fn alike_states() {
     assert!(count.starts_merged >= 50, "{count:?}");
     assert!(count.merges_with_groups >= 100, "{count:?}");
     assert!(count.between_groups >= 100, "{count:?}");
+    assert!(count.padded.iter().all(|&edits| edits >= 100), "{count:?}");
+}
+
+/// The rule τ and tt, with law 9 at its last node; two alike states and one that is not.
+#[test]
+fn a_refusal_leaves_the_padding() {
+    let case = drives::case(&[0, 0, 1], &[], &[(5, 0, 0), (0, 0, 0), (9, 0, 1)]);
+    let case = drives::starting_in(&[1, 2], case);
+    let packed = write(&case);
+    for gaps in padding::all() {
+        let first = padding::padded(&packed, gaps);
+        let mut book = Book::new(&first).expect("an accepted case");
+        for (edit, room, row) in [
+            (Edit::Merge { s: 0, t: 2 }, LONGEST, 10),
+            (Edit::Merge { s: 0, t: 3 }, LONGEST, 8),
+            (Edit::Merge { s: 0, t: 1 }, packed.len() - 2, 13),
+            (Edit::Rewrite { law: 1, node: 2 }, LONGEST, 11),
+            (Edit::Rewrite { law: 9, node: 2 }, packed.len() - 1, 13),
+        ] {
+            assert_eq!(turn(&mut book, &first, edit, room), refused(row, 0));
+            assert_eq!(book.file(), first);
+        }
+        let edit = Edit::Rewrite { law: 9, node: 2 };
+        let written = turn(&mut book, &first, edit, packed.len()).expect("the law fits");
+        let swapped = Case {
+            nodes: vec![(5, 0, 0), (0, 0, 0), (9, 1, 0)],
+            ..case.clone()
+        };
+        assert_eq!(written, write(&swapped));
+        assert_eq!(book.file(), written);
+    }
 }
 
 #[test]
@@ -185,7 +233,8 @@ fn rules_of_any_kind() {
     let mut count = Count::default();
     for _ in 0..80 {
         let case = generate::case_where(&mut rng, |case| case.labels.len() <= 5);
-        run(&mut rng, &write(&case), &mut count);
+        let first = padding::file(&mut rng, &case);
+        run(&mut rng, &first, &mut count);
     }
     println!("{count:?}");
     assert!(count.rewrites >= 500, "{count:?}");
@@ -198,7 +247,8 @@ fn drives() {
     let mut count = Count::default();
     for (_, case) in drives::drives() {
         for _ in 0..5 {
-            run(&mut rng, &write(&case), &mut count);
+            let first = padding::file(&mut rng, &case);
+            run(&mut rng, &first, &mut count);
         }
     }
     assert!(count.merges >= 5 && count.rewrites >= 100, "{count:?}");

@@ -4,10 +4,10 @@ use differential::damage::expect_refusals;
 use differential::formulas::{self, Bounds};
 use differential::generate;
 use differential::judging::{compare, needed};
+use differential::padding;
 use differential::replies::{in_plain, refused};
 use differential::rng::Rng;
 use differential::strange::STRANGE;
-use plain::write;
 
 /// Around the length that is needed, and far from it.
 #[test]
@@ -19,7 +19,8 @@ fn areas_of_every_length() {
             nesting: 2,
             depth: 3,
         };
-        let file = write(&formulas::case(&mut rng, bounds));
+        let case = formulas::case(&mut rng, bounds);
+        let file = padding::file(&mut rng, &case);
         let set = rng.below(1 << bounds.states) as u16;
         let needed = needed(&file);
         let near = needed - 2..=needed + 3;
@@ -41,7 +42,8 @@ fn sets_and_areas_refused() {
     let mut rng = Rng::new(410);
     let mut refusals = [0; 10];
     for _ in 0..4_000 {
-        let file = write(&generate::case(&mut rng));
+        let case = generate::case(&mut rng);
+        let file = padding::file(&mut rng, &case);
         let set = if rng.one_in(2) {
             rng.below(4) as u16
         } else {

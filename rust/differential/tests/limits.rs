@@ -1,5 +1,6 @@
 //! The last value that passes and the first that does not, by both checkers.
 use differential::drives::{longest, starting_in};
+use differential::padding::{write_padded, PACKED, WIDEST};
 use differential::replies::refused;
 use differential::tally::{compare, Reply};
 use plain::{pack, write, Case, Triple};
@@ -110,25 +111,30 @@ fn variables() {
 #[test]
 fn file_lengths() {
     let mut case = longest();
-    let mut file = write(&case);
-    assert_eq!(file.len(), 6385);
-    for section in 0..4 {
-        assert_eq!(compare(&file, section), Ok((16, 64)));
+    for (gaps, length) in [(PACKED, 6385), (WIDEST, 6394)] {
+        let file = write_padded(&case, gaps);
+        assert_eq!(file.len(), length);
+        for section in 0..4 {
+            assert_eq!(compare(&file, section), Ok((16, 64)));
+        }
+        assert_eq!(compare(&file[..length - 1], 0), refused(1, 0));
+        let longer = [&file[..], &[0]].concat();
+        assert_eq!(compare(&longer, 0), refused(1, 0));
     }
-    assert_eq!(compare(&file[..6384], 0), refused(1, 0));
-    file.push(0);
-    assert_eq!(compare(&file, 0), refused(1, 0));
 
     // Right pairs, so only the length of the file is wrong for row 1.
     case.labels.push(0);
-    assert_eq!(write(&case).len(), 6386);
-    assert_eq!(compare(&write(&case), 0), refused(1, 0));
+    for (gaps, length, row) in [(PACKED, 6386, 2), ([3, 3, 2], 6394, 2), (WIDEST, 6395, 1)] {
+        let file = write_padded(&case, gaps);
+        assert_eq!(file.len(), length);
+        assert_eq!(compare(&file, 0), refused(row, 0), "{length}");
+    }
     case.steps.pop();
-    assert_eq!(compare(&write(&case), 0), refused(2, 0));
+    assert_eq!(compare(&write_padded(&case, WIDEST), 0), refused(2, 0));
 }
 
-/// A start state more is one that the table does not have: alone it gets row 4, and in the longest
-/// file row 1.
+/// A start state more is one that the table does not have: it gets row 4, and row 1 in a file that
+/// it makes too long.
 #[test]
 fn start_states() {
     let longest = longest();
@@ -144,9 +150,12 @@ fn start_states() {
         let file = write(&starting_in(&starts, short.clone()));
         assert_eq!(compare(&file, 3), reply, "{count} start states");
     }
-    let file = write(&starting_in(&Vec::from_iter(0..17), longest));
-    assert_eq!(file.len(), 6386);
-    assert_eq!(compare(&file, 3), refused(1, 0));
+    let case = starting_in(&Vec::from_iter(0..17), longest);
+    for (gaps, length, row) in [([3, 3, 2], 6394, 4), (WIDEST, 6395, 1)] {
+        let file = write_padded(&case, gaps);
+        assert_eq!(file.len(), length);
+        assert_eq!(compare(&file, 3), refused(row, 0), "{length}");
+    }
 }
 
 /// A state of the table, and those beyond it, as the only start state and as the last.
@@ -181,7 +190,7 @@ fn lengths_near_the_borders() {
     for length in near() {
         let row = match length {
             17..=32 => 4,
-            16..=6385 => 2,
+            16..=6394 => 2,
             _ => 1,
         };
         let file = pack(&[&vec![0; length - 16], &[], &[], &[]]);

@@ -1,9 +1,10 @@
 //! Merging by both checkers, from fixed seeds. The comparison checks every byte that is lent.
 use differential::damage::expect_refusals;
+use differential::drives::LONGEST_PACKED;
 use differential::edits::{merge, rooms, LONGEST};
 use differential::replies::refused;
 use differential::rng::Rng;
-use differential::{alike_tables, drives};
+use differential::{alike_tables, drives, padding};
 use plain::write;
 
 /// Each state of the case and some beyond it.
@@ -69,7 +70,8 @@ fn every_pair_of_states() {
     let (mut merged, mut refused) = (0, [0; 14]);
     for i in 0..48 {
         let states = 1 + i % 16;
-        let file = write(&alike_tables::case(&mut rng, states));
+        let case = alike_tables::case(&mut rng, states);
+        let file = padding::file(&mut rng, &case);
         for s in states_and_beyond(states) {
             for t in states_and_beyond(states) {
                 match merge(&file, s, t, file.len()) {
@@ -88,7 +90,8 @@ fn every_pair_of_states() {
 fn down_to_the_classes() {
     let mut rng = Rng::new(710);
     for i in 0..150 {
-        let mut file = write(&alike_tables::case(&mut rng, 1 + i % 16));
+        let case = alike_tables::case(&mut rng, 1 + i % 16);
+        let mut file = padding::file(&mut rng, &case);
         loop {
             let classes = plain::classes(&file, 16).unwrap();
             let lower = |&s: &usize| usize::from(classes[s]) < s;
@@ -108,7 +111,8 @@ fn areas_of_every_length() {
     let mut tried = 0;
     while tried < 40 {
         let states = rng.within(2..=16);
-        let file = write(&alike_tables::case(&mut rng, states));
+        let case = alike_tables::case(&mut rng, states);
+        let file = padding::file(&mut rng, &case);
         let (s, t) = (rng.below(states), rng.below(states));
         if let Ok(result) = plain::merge(&file, s, t, LONGEST) {
             rooms(&file, &result, |file, room| merge(file, s, t, room));
@@ -120,12 +124,19 @@ fn areas_of_every_length() {
 /// All states are alike.
 #[test]
 fn the_longest_case() {
-    let file = write(&drives::longest());
-    assert_eq!(file.len(), LONGEST);
-    for (s, t) in [(0, 1), (15, 0), (7, 8), (15, 14)] {
-        let result = merge(&file, s, t, LONGEST).unwrap();
+    let packed = write(&drives::longest());
+    let padded = padding::padded(&packed, padding::WIDEST);
+    assert_eq!((packed.len(), padded.len()), (LONGEST_PACKED, LONGEST));
+    for (file, s, t) in [
+        (&packed, 0, 1),
+        (&padded, 0, 1),
+        (&packed, 15, 0),
+        (&padded, 7, 8),
+        (&packed, 15, 14),
+    ] {
+        let result = merge(file, s, t, LONGEST).unwrap();
         assert_eq!(result.len(), 16 + 15 + 3 * 15 * 8 * 15 + 193 + 15);
-        rooms(&file, &result, |file, room| merge(file, s, t, room));
+        rooms(file, &result, |file, room| merge(file, s, t, room));
     }
 }
 

@@ -3,6 +3,7 @@ use differential::damage::expect_refusals;
 use differential::drives::{case, drives, longest, read, starting_in, wheels};
 use differential::formulas::{self, Bounds};
 use differential::generate;
+use differential::padding::{self, padded, WIDEST};
 use differential::printed::{wanted, WORDS};
 use differential::rng::Rng;
 use plain::{vet, write, Case, Triple};
@@ -86,13 +87,15 @@ fn no_input() {
     assert_eq!(check(&[]), "refused 1 0\n");
 }
 
-/// The longest case, and input that is longer.
+/// The longest case, packed and padded, and input that is longer.
 #[test]
 fn long_input() {
-    let file = write(&longest());
-    assert_eq!(file.len(), 6_385);
+    let packed = write(&longest());
+    let file = padded(&packed, WIDEST);
+    assert_eq!((packed.len(), file.len()), (6_385, 6_394));
+    assert_eq!(check(&packed), "refused 9 0\n");
     assert_eq!(check(&file), "refused 9 0\n");
-    for length in [6_386, 6_387, 8_192, 65_536, 200_000] {
+    for length in [6_395, 6_396, 8_192, 65_536, 200_000] {
         let mut longer = file.clone();
         longer.resize(length, 0);
         assert_eq!(check(&longer), "refused 1 0\n", "{length} bytes");
@@ -175,7 +178,8 @@ fn random_cases() {
             nesting: 3,
             depth: 4,
         };
-        let print = check_case(&formulas::case(&mut rng, bounds));
+        let case = formulas::case(&mut rng, bounds);
+        let print = check(&padding::file(&mut rng, &case));
         no += usize::from(print.ends_with("\nstarts no\n"));
         yes += usize::from(print.ends_with("\nstarts yes\n"));
     }
@@ -189,6 +193,7 @@ fn random_cases_refused() {
     let large = |case: &Case| 2 * case.nodes.len() * (1 << case.labels.len()) > WORDS;
     for _ in 0..30 {
         let case = generate::case_where(&mut rng, large);
-        assert_eq!(check_case(&case), "refused 9 0\n");
+        let file = padding::file(&mut rng, &case);
+        assert_eq!(check(&file), "refused 9 0\n");
     }
 }

@@ -1,11 +1,12 @@
 //! Random files by both checkers, from fixed seeds.
 use differential::damage::expect_refusals;
 use differential::generate::case;
+use differential::padding;
 use differential::replies::refused;
 use differential::rng::Rng;
 use differential::strange::{section, STRANGE};
 use differential::tally::Tally;
-use plain::{parse, write};
+use plain::parse;
 
 #[test]
 fn valid_cases() {
@@ -13,7 +14,7 @@ fn valid_cases() {
     let mut tally = Tally::default();
     for _ in 0..40_000 {
         let case = case(&mut rng);
-        let file = write(&case);
+        let file = padding::file(&mut rng, &case);
         let section = section(&mut rng);
         let counts = (case.labels.len(), case.nodes.len());
         let expected = if section < 4 {
@@ -28,6 +29,7 @@ fn valid_cases() {
     assert_eq!(tally.calls, 80_000);
     assert!(tally.answers > 20_000 && tally.refusals[8] > 5_000);
     assert!(tally.with_groups > 10_000 && tally.with_starts > 15_000);
+    assert!(tally.with_padding > 10_000 && tally.with_padding < tally.answers - 10_000);
 }
 
 /// Each fault gets its own row and place, whatever the section number.
@@ -36,7 +38,7 @@ fn damaged_cases() {
     let mut tally = Tally::default();
     expect_refusals(100, 3_000, |rng, file| tally.compare(file, section(rng)));
     println!("{tally:?}");
-    assert_eq!(tally.calls, 150_000);
+    assert_eq!(tally.calls, 180_000);
     for row in 1..=7 {
         assert!(tally.refusals[row] >= 3_000, "row {row}");
     }
@@ -55,8 +57,9 @@ fn strange_files() {
         }
     }
     println!("{tally:?}");
-    assert_eq!(tally.calls, 120_000);
+    assert_eq!(tally.calls, 140_000);
     assert!(tally.answers >= 1_000 && tally.with_groups >= 500 && tally.with_starts >= 500);
+    assert!(tally.with_padding >= 500);
     for row in 1..=8 {
         assert!(tally.refusals[row] >= 100, "row {row}");
     }

@@ -2,6 +2,7 @@
 use differential::damage::expect_refusals;
 use differential::edits::{rewrite, rooms, LONGEST};
 use differential::formulas::{self, Bounds};
+use differential::padding::{numbered, write_padded};
 use differential::replies::refused;
 use differential::rng::Rng;
 use differential::{chops, drives, generate};
@@ -34,11 +35,13 @@ struct Count {
 }
 
 impl Count {
-    /// Tries every law at every node and beyond, with room for any result.
+    /// Tries every law at every node and beyond, with room for any result. The file's padding is
+    /// another for each law.
     fn everywhere(&mut self, case: &Case) {
-        let (file, nodes) = (write(case), case.nodes.len());
+        let nodes = case.nodes.len();
         let beyond = [nodes, nodes + 1, 256, 1 << 32, usize::MAX];
-        for law in LAWS {
+        for (i, law) in LAWS.into_iter().enumerate() {
+            let file = write_padded(case, numbered(5 * i));
             for node in (0..nodes).chain(beyond) {
                 self.one(&file, law, node);
             }
@@ -139,9 +142,7 @@ fn every_shape() {
     for case in shapes() {
         let file = write(&case);
         for law in LAWS {
-            for node in 4..=6 {
-                count.one(&file, law, node);
-            }
+            (4..=6).for_each(|node| count.one(&file, law, node));
         }
     }
     println!("{:?} {:?}", count.answers, count.refusals);
@@ -213,23 +214,23 @@ fn start_states_stay() {
 }
 
 /// Leaves before the shape, or behind it, up to so many nodes.
-fn padded(case: &Case, nodes: usize, in_front: bool) -> Case {
+fn filled(case: &Case, nodes: usize, in_front: bool) -> Case {
     let more = nodes - case.nodes.len();
-    let mut padded = case.clone();
+    let mut filled = case.clone();
     if !in_front {
-        padded.nodes.resize(nodes, (5, 0, 0));
-        return padded;
+        filled.nodes.resize(nodes, (5, 0, 0));
+        return filled;
     }
     let up = |named: u8| named + more as u8;
-    padded.nodes = vec![(5, 0, 0); more];
+    filled.nodes = vec![(5, 0, 0); more];
     let moved = |&(kind, a, b): &Triple| match Shape::of((kind, a, b)) {
         Shape::Leaf => (kind, a, b),
         Shape::Two(..) => (kind, up(a), up(b)),
         Shape::Binder(..) => (kind, a, up(b)),
     };
-    padded.nodes.extend(case.nodes.iter().map(moved));
-    padded.root = up(case.root);
-    padded
+    filled.nodes.extend(case.nodes.iter().map(moved));
+    filled.root = up(case.root);
+    filled
 }
 
 /// One node more fits 63 nodes, two more fit 62.
@@ -246,12 +247,12 @@ fn near_64_nodes() {
             .flat_map(|&n| [(n, false), (n, true)])
         {
             let mut count = Count::default();
-            let padded = padded(&case, nodes, in_front);
-            count.everywhere(&padded);
+            let filled = filled(&case, nodes, in_front);
+            count.everywhere(&filled);
             too_many += count.refusals[12];
             let added = nodes - case.nodes.len();
             let node = if in_front { 4 + added } else { 4 };
-            let file = write(&padded);
+            let file = write(&filled);
             for (law, more) in [(4, 1), (5, 1), (6, 2), (7, 2)] {
                 let fits = rewrite(&write(&case), law, 4, LONGEST).is_ok();
                 let expected = match (fits, nodes + more > 64) {
@@ -274,7 +275,8 @@ fn near_64_nodes() {
 fn areas_of_every_length() {
     for law in 1..=9 {
         let mut tried = 0;
-        for file in shapes().map(|case| write(&case)) {
+        for (i, case) in shapes().enumerate() {
+            let file = write_padded(&case, numbered(i));
             let node = 4 + tried % 3;
             let Ok(result) = plain::rewrite(&file, law, node, LONGEST) else {
                 continue;

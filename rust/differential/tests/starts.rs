@@ -4,6 +4,7 @@ use differential::drives::{case, starting_in};
 use differential::formulas::{self, Bounds};
 use differential::generate;
 use differential::judging::{all_states, compare, compare_starts, needed, number_of, set_of};
+use differential::padding;
 use differential::replies::refused;
 use differential::rng::Rng;
 use plain::write;
@@ -56,7 +57,7 @@ fn random_cases() {
             depth: 3,
         };
         let case = formulas::case(&mut rng, bounds);
-        let file = write(&case);
+        let file = padding::file(&mut rng, &case);
         let needed = needed(&file);
         let word = compare_starts(&file, needed).unwrap();
         assert!(word || !case.starts.is_empty());

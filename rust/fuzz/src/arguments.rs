@@ -1,6 +1,7 @@
 //! The arguments that come with a file: mostly right ones, and those at and past their limits.
 use differential::edits::LONGEST;
 use differential::measure::nesting;
+use differential::padding::padding_of;
 use differential::rng::Rng;
 use plain::{Case, Edit, Shape};
 
@@ -44,12 +45,14 @@ pub fn judged_soon(case: &Case) -> bool {
     tables.saturating_mul(turns) <= 100_000
 }
 
-/// The length of an output area: enough, about what the file has, or too little.
+/// The length of an output area: enough, about what the file has without its padding, or too little.
 pub fn room(rng: &mut Rng, file: &[u8]) -> usize {
+    let padding = plain::parse(file).map_or(0, |_| padding_of(file).len());
+    let packed = file.len() - padding;
     match rng.below(8) {
         0 => rng.below(20),
         1 => rng.below(file.len() + 1),
-        2..=3 => (file.len() + rng.below(16)).saturating_sub(9),
+        2..=3 => (packed + rng.below(16)).saturating_sub(9),
         4 => LONGEST + rng.below(64),
         _ => file.len() + 16,
     }

@@ -1,12 +1,13 @@
 //! Changes of a file that make it a wrong case, or at times another right one.
 use differential::groups;
+use differential::padding::{self, gaps, padded, padding_of, sections};
 use differential::rng::Rng;
-use plain::{pack, write, PAIRS_LENGTH};
+use plain::{pack, PAIRS_LENGTH};
 
 /// One to three changes.
 pub fn change(rng: &mut Rng, file: &mut Vec<u8>) {
     for _ in 0..rng.within(1..=3) {
-        match rng.below(9) {
+        match rng.below(11) {
             0 => flip(rng, file),
             1..=2 => border_byte(rng, file),
             3 => border_pair(rng, file),
@@ -14,6 +15,8 @@ pub fn change(rng: &mut Rng, file: &mut Vec<u8>) {
             5 => lengthen(rng, file),
             6 => group(rng, file),
             7 => start(rng, file),
+            8 => lay_anew(rng, file),
+            9 => padding_byte(rng, file),
             _ => section(rng, file),
         }
     }
@@ -43,7 +46,7 @@ fn border_byte(rng: &mut Rng, file: &mut [u8]) {
 
 /// An offset or a length at a border.
 fn border_pair(rng: &mut Rng, file: &mut [u8]) {
-    const BORDERS: [usize; 10] = [0, 1, 15, 16, 17, 255, 256, 6385, 32_768, 65_535];
+    const BORDERS: [usize; 11] = [0, 1, 15, 16, 17, 255, 256, 6385, 6394, 32_768, 65_535];
     let length = file.len();
     let at = 2 * rng.below(PAIRS_LENGTH / 2);
     if let Some(number) = file.get_mut(at..at + 2) {
@@ -93,24 +96,43 @@ fn start(rng: &mut Rng, file: &mut Vec<u8>) {
         rng.below(case.starts.len() + 1)
     };
     case.starts.insert(place, state);
-    *file = write(&case);
+    *file = padding::file(rng, &case);
+}
+
+/// The sections end to end, or some bytes 0 apart, at times too many, if the file is still a case.
+fn lay_anew(rng: &mut Rng, file: &mut Vec<u8>) {
+    let Ok(case) = plain::parse(file) else {
+        return;
+    };
+    let mut gaps = gaps(rng);
+    if rng.one_in(4) {
+        gaps[rng.below(3)] = rng.within(3..=5);
+    }
+    *file = padding::write_padded(&case, gaps);
+}
+
+/// A byte of the padding that is any other, if the file is still a case and has some.
+fn padding_byte(rng: &mut Rng, file: &mut [u8]) {
+    if plain::parse(file).is_err() {
+        return;
+    }
+    let padding = padding_of(file);
+    if !padding.is_empty() {
+        file[rng.pick(&padding)] = rng.byte();
+    }
 }
 
 /// A section cut or lengthened under right pairs, if the file is still a case.
 fn section(rng: &mut Rng, file: &mut Vec<u8>) {
-    let mut parts = vec![];
-    for number in 0..4 {
-        let Ok(part) = plain::open(file, number) else {
-            return;
-        };
-        parts.push(file[part].to_vec());
+    if plain::parse(file).is_err() {
+        return;
     }
+    let mut parts = sections(file).map(|part| file[part].to_vec());
     let part = &mut parts[rng.below(4)];
     let (back, more) = (rng.below(4), rng.below(4));
     part.truncate(part.len().saturating_sub(back));
     part.extend(rng.bytes(more).iter().map(|byte| byte % 16));
-    let parts: Vec<&[u8]> = parts.iter().map(Vec::as_slice).collect();
-    *file = pack(&parts);
+    *file = padded(&pack(&parts.each_ref().map(Vec::as_slice)), gaps(rng));
 }
 
 fn any_byte<'a>(rng: &mut Rng, file: &'a mut [u8]) -> Option<&'a mut u8> {

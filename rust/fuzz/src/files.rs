@@ -5,15 +5,15 @@ use differential::drives::drives;
 use differential::formulas::{self, Bounds};
 use differential::rng::Rng;
 use differential::strange::STRANGE;
-use differential::{alike_tables, chops, generate};
-use plain::{write, Case};
+use differential::{alike_tables, chops, generate, padding};
+use plain::Case;
 use std::ops::RangeInclusive;
 
 pub fn any(rng: &mut Rng) -> Vec<u8> {
     match rng.below(10) {
-        0..=3 => write(&case(rng)),
+        0..=3 => right(rng),
         4..=5 => {
-            let mut file = write(&case(rng));
+            let mut file = right(rng);
             change(rng, &mut file);
             file
         }
@@ -26,7 +26,12 @@ pub fn any(rng: &mut Rng) -> Vec<u8> {
     }
 }
 
-/// A valid case.
+/// The file of a valid case, packed or padded.
+fn right(rng: &mut Rng) -> Vec<u8> {
+    let case = case(rng);
+    padding::file(rng, &case)
+}
+
 fn case(rng: &mut Rng) -> Case {
     match rng.below(8) {
         0..=1 => judged(rng, 1..=5, 3),
@@ -108,5 +113,26 @@ mod tests {
         }
         assert!((cases / 4..cases).contains(&listed), "{listed} of {cases}");
         assert_eq!(states.len(), 16);
+    }
+
+    /// Of the files that are cases many are padded and many packed, and all gaps come up.
+    #[test]
+    fn gaps() {
+        let mut rng = Rng::new(3);
+        let (mut cases, mut packed, mut gaps) = (0, 0, BTreeSet::new());
+        for _ in 0..10_000 {
+            let file = any(&mut rng);
+            if plain::parse(&file).is_ok() {
+                let found = padding::gaps_of(&file);
+                cases += 1;
+                packed += usize::from(found == padding::PACKED);
+                gaps.insert(found);
+            }
+        }
+        assert!(
+            (cases / 4..3 * cases / 4).contains(&packed),
+            "{packed} of {cases}"
+        );
+        assert_eq!(gaps.len(), 64);
     }
 }

@@ -3,14 +3,16 @@ use crate::replies::{Entry, Replies};
 use crate::{arguments, entries, files};
 use differential::edits::turn;
 use differential::judging::{all_states, compare, compare_starts, needed};
+use differential::padding;
 use differential::rng::Rng;
-use plain::{write, Book};
+use plain::Book;
 
 /// Makes up to 12 edits of a case, and returns the file that they lead to. Each state of the first
 /// case must hold if and only if the state standing for it does, and every start state of the last
 /// case if and only if every one of the first did.
 pub fn edits(rng: &mut Rng, replies: &mut Replies) -> Vec<u8> {
-    let first = write(&files::with_alike_states(rng));
+    let case = files::with_alike_states(rng);
+    let first = padding::file(rng, &case);
     let mut book = Book::new(&first).expect("a valid case");
     let mut file = first.clone();
     for _ in 0..rng.within(1..=12) {

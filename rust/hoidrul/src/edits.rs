@@ -1,7 +1,7 @@
 //! Entries that write to an output area: classes, merging, rewriting.
 //!
 //! Each answers the count of bytes written, from the area's start. Output bytes past the result
-//! stay as they were.
+//! stay as they were. A written file is packed, whatever padding the given one has.
 use crate::refusal::answer;
 use crate::{ffi, Refusal};
 
@@ -35,10 +35,10 @@ pub fn classes(file: &[u8], out: &mut [u8]) -> Result<usize, Refusal> {
     count(ffi::classes(file, out))
 }
 
-/// Merges two alike states, given in either order: writes the file of the case in which the lower
-/// stands for both, also in the list of start states, and answers its count of bytes. States above
-/// the higher move down by one. On the set of all states, each state holds exactly if the state
-/// standing for it does.
+/// Merges two alike states, given in either order: writes the packed file of the case in which the
+/// lower stands for both, also in the list of start states, and answers its count of bytes. States
+/// above the higher move down by one. On the set of all states, each state holds exactly if the
+/// state standing for it does.
 ///
 /// Refusals: 1 to 7, then 8 for a state beyond the case, 10 for a state with itself or states not
 /// alike, 13 for an area shorter than the result.
@@ -66,8 +66,8 @@ pub fn merge(file: &[u8], s: usize, t: usize, out: &mut [u8]) -> Result<usize, R
     count(ffi::merge(file, s, t, out))
 }
 
-/// Rewrites by a law, 1 to 9, at a node: writes the file of the case with that rule, and answers
-/// its count of bytes. The rule keeps its meaning, and all else stays.
+/// Rewrites by a law, 1 to 9, at a node: writes the packed file of the case with that rule, and
+/// answers its count of bytes. The rule keeps its meaning, and the other sections stay.
 ///
 /// | Law | From | To |
 /// |---|---|---|

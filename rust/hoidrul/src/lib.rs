@@ -1,17 +1,21 @@
 //! Safe binding to the proved checker of case files.
 //!
 //! A case file holds one state table, one rule in Fixed Point Logic with Chop and a list of start
-//! states, in four sections: [`LABELS`], [`STEPS`], [`RULE`] and [`STARTS`]. Six entries take such
-//! a file:
+//! states, in four sections: [`LABELS`], [`STEPS`], [`RULE`] and [`STARTS`]. A head tells for each
+//! where it begins and how many bytes it has; the first begins behind the head, any other where the
+//! one before ends or up to three bytes 0 behind, its padding. Six entries take such a file:
 //!
 //! | Entry | Answers |
 //! |---|---|
 //! | [`vet`] | how many states and nodes the case has |
-//! | [`open`] | a section, as that part of the file |
+//! | [`open`] | a section without its padding, as that part of the file |
 //! | [`judge`] | which states hold, and after how many rounds |
 //! | [`classes`] | which states are alike |
 //! | [`merge`] | the case with two alike states made one |
 //! | [`rewrite`] | the case with its rule rewritten by one of nine laws |
+//!
+//! A padded file gets the replies of the packed one, which has the same sections without padding.
+//! [`merge`] and [`rewrite`] write packed files.
 //!
 //! Each takes any bytes and any numbers, always ends, and answers or returns a [`Refusal`]. The
 //! caller lends every area that is written, and a refusal leaves it unchanged. Entries keep no
@@ -58,8 +62,9 @@ pub use sections::{open, vet, Counts, LABELS, RULE, STARTS, STEPS};
 #[doc = include_str!("../../../README.md")]
 struct Readme;
 
-/// The longest case, in bytes. An output area of this length has room for every result.
-pub const LONGEST: usize = 6_385;
+/// The longest case, in bytes, with its padding. An output area of this length has room for every
+/// result, which is packed and has at most 6,385 bytes.
+pub const LONGEST: usize = 6_394;
 
 /// Enough stack for a thread that calls, in bytes. In tests a call took at most 13,256 bytes.
 /// Rust's threads have more unless they are built with less.

@@ -39,7 +39,7 @@ macro_rules! rows {
 }
 
 rows! {
-    1 Pairs "under 16 or over 6,385 bytes, or the pairs do not lay four sections end to end"
+    1 Pairs "under 16 or over 6,394 bytes, or the pairs do not lay four sections in a row, at most three zero bytes apart"
     2 Labels "no label, or more than 16"
     3 Steps "section 1 ends inside a step, or a step names no state or action of the case or does not come after the one before"
     4 Rule "the rule is not 1 to 64 whole nodes and then the number of one of them, or the start states do not rise or are not all in the table"
@@ -71,7 +71,7 @@ impl fmt::Display for Reason {
 /// assert_eq!(refusal.number(), 1);
 /// assert_eq!(
 ///     refusal.to_string(),
-///     "refused 1 0: under 16 or over 6,385 bytes, or the pairs do not lay four sections end to end"
+///     "refused 1 0: under 16 or over 6,394 bytes, or the pairs do not lay four sections in a row, at most three zero bytes apart"
 /// );
 /// ```
 #[derive(Clone, Copy, Debug, PartialEq, Eq, Hash)]

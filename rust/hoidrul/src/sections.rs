@@ -72,7 +72,8 @@ pub fn vet(file: &[u8], section: usize) -> Result<Counts, Refusal> {
     })
 }
 
-/// Opens a section: a part of the lent file, without copying. Steps and start states may be empty.
+/// Opens a section: a part of the lent file, without copying and without padding. Steps and start
+/// states may be empty.
 ///
 /// Refusals: those of [`vet`].
 ///
@@ -92,6 +93,17 @@ pub fn vet(file: &[u8], section: usize) -> Result<Counts, Refusal> {
 /// assert_eq!(open(&file, STARTS)?, [0]);
 ///
 /// assert_eq!(open(&file, 4).unwrap_err().number(), 8);
+///
+/// // The same sections, each at a multiple of four.
+/// let aligned = [
+///     16, 0, 1, 0, 20, 0, 0, 0, 20, 0, 4, 0, 24, 0, 1, 0, // pairs
+///     0b100, 0, 0, 0, // labels, and three bytes of padding
+///     5, 0, 0, 0, // rule
+///     0, // start states
+/// ];
+/// for section in [LABELS, STEPS, RULE, STARTS] {
+///     assert_eq!(open(&aligned, section)?, open(&file, section)?);
+/// }
 /// # Ok::<(), hoidrul::Refusal>(())
 /// ```
 pub fn open(file: &[u8], section: usize) -> Result<&[u8], Refusal> {

@@ -43,11 +43,10 @@ const SECTIONS: [(usize, &str); 4] = [
 fn sample_print(file: &[u8]) -> Result<String, Refusal> {
     let counts = hoidrul::vet(file, LABELS)?;
     let mut print = format!("states: {}\nnodes: {}\n", counts.states, counts.nodes);
-    let mut offset = 16;
     for (section, name) in SECTIONS {
         let length = hoidrul::open(file, section)?.len();
+        let offset = u16::from_le_bytes([file[4 * section], file[4 * section + 1]]);
         writeln!(print, "{name}: {length} bytes from byte {offset}").unwrap();
-        offset += length;
     }
     print += &verdict_print(file)?;
     print += &merge_print(file)?;
@@ -119,6 +118,7 @@ fn sample_prints_what_the_binding_answers() {
         "example_4",
         "feed_and_back",
         "pulled_back_fed_again",
+        "aligned_sections",
         "tight_at_any_current",
     ];
     for name in cases {

@@ -22,7 +22,7 @@ fn a_start_state_that_does_not_hold() {
 #[test]
 fn refusals_in_words() {
     let bad = no_case();
-    let words = "refused 1 0: under 16 or over 6,385 bytes, or the pairs do not lay four sections end to end";
+    let words = "refused 1 0: under 16 or over 6,394 bytes, or the pairs do not lay four sections in a row, at most three zero bytes apart";
     let line = format!("{}: {words}\n", bad.display());
     assert_eq!(told(example("holds", &[&bad])), line);
     assert_eq!(told(example("holds", &[])), "usage: holds CASE\n");

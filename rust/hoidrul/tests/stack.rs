@@ -5,7 +5,8 @@ use std::thread::{self, Builder};
 
 type Triple = [u8; 3];
 
-/// The file of a case whose root is its last node, and whose states are all start states.
+/// The file of a case whose root is its last node, and whose states are all start states, with as
+/// much padding as there can be.
 fn file(labels: &[u8], steps: &[Triple], nodes: &[Triple]) -> Vec<u8> {
     let (steps, mut rule) = (steps.concat(), nodes.concat());
     rule.push(nodes.len() as u8 - 1);
@@ -17,9 +18,9 @@ fn file(labels: &[u8], steps: &[Triple], nodes: &[Triple]) -> Vec<u8> {
         for number in [offset, section.len()] {
             file.extend((number as u16).to_le_bytes());
         }
-        offset += section.len();
+        offset += section.len() + 3;
     }
-    file.extend(sections.concat());
+    file.extend(sections.join(&[0; 3][..]));
     file
 }
 

@@ -16,7 +16,8 @@ pub struct Case {
     pub starts: Vec<u8>,
 }
 
-/// The file of a case. Nothing is vetted, so that a wrong case can be written too.
+/// The packed file of a case, without padding, which edits write. Nothing is vetted, so that a wrong
+/// case can be written too.
 ///
 /// # Panics
 /// If an offset or a length does not fit two bytes.
@@ -26,7 +27,7 @@ pub fn write(case: &Case) -> Vec<u8> {
     pack(&[&case.labels, &flatten(&case.steps), &rule, &case.starts])
 }
 
-/// Pairs of offset and length, then the sections without gaps.
+/// Pairs of offset and length, then the sections without padding.
 ///
 /// # Panics
 /// If an offset or a length does not fit two bytes.

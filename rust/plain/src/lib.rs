@@ -1,5 +1,5 @@
-//! A checker of case files, written from document 01 and requests 2026-01 and 2026-03 alone, which
-//! docs/SPECIFICATION.md restates.
+//! A checker of case files, written from document 01 and requests 2026-01, 2026-03 and 2026-04 alone,
+//! which docs/SPECIFICATION.md restates.
 //!
 //! It is the yardstick for the proved library: meant to be seen right, not to be fast, and to
 //! work by other means than the proved code wherever there is a choice.

@@ -8,6 +8,8 @@ use std::ops::Range;
 const SECTIONS: usize = 4;
 /// The bytes of the head: an offset and a length for each section.
 pub const PAIRS_LENGTH: usize = 4 * SECTIONS;
+/// The most bytes between a section and the next.
+const MOST_PADDING: usize = 3;
 pub const MOST_NODES: usize = 64;
 const HIGHEST_ACTION: u8 = 7;
 
@@ -21,7 +23,7 @@ pub struct Limits {
 impl Limits {
     /// Those of a case (docs/SPECIFICATION.md, 1.3 and 1.4).
     pub const CASE: Limits = Limits {
-        longest_file: 6385,
+        longest_file: 6394,
         most_states: 16,
     };
 }
@@ -63,18 +65,24 @@ pub fn parse_within(file: &[u8], limits: Limits) -> Result<Case, Refusal> {
     })
 }
 
-/// Row 1: the sections follow one another from the end of the pairs to the end of the file.
+/// Row 1: the first section begins where the pairs end, the last ends with the file, and nothing but
+/// padding stands between two of them.
 fn sections(file: &[u8], limits: Limits) -> Result<[Range<usize>; SECTIONS], Refusal> {
     let lengths = PAIRS_LENGTH..=limits.longest_file;
     Refusal::unless(lengths.contains(&file.len()), 1, 0)?;
     let sections: [Range<usize>; SECTIONS] = std::array::from_fn(|section| pair(file, section));
-    let mut end = PAIRS_LENGTH;
-    for section in &sections {
-        Refusal::unless(section.start == end, 1, 0)?;
-        end = section.end;
+    let ends = (sections[0].start, sections[SECTIONS - 1].end);
+    Refusal::unless(ends == (PAIRS_LENGTH, file.len()), 1, 0)?;
+    for two in sections.windows(2) {
+        Refusal::unless(is_padding(file, two[0].end..two[1].start), 1, 0)?;
     }
-    Refusal::unless(end == file.len(), 1, 0)?;
     Ok(sections)
+}
+
+/// Of a range that is turned round or not in the file there are no bytes, and it is no padding.
+fn is_padding(file: &[u8], gap: Range<usize>) -> bool {
+    file.get(gap)
+        .is_some_and(|bytes| bytes.len() <= MOST_PADDING && bytes.iter().all(|&byte| byte == 0))
 }
 
 /// What a pair of offset and length says, true or not.
@@ -205,5 +213,63 @@ mod tests {
             assert_eq!(with_starts(starts, (15, 0, 0)), Err(4), "before row 5");
         }
         assert_eq!(with_starts(&[0], (15, 0, 0)), Err(5));
+    }
+
+    /// One state, no steps, the rule τ and start state 0, with these bytes in front of sections 1, 2
+    /// and 3.
+    fn with_gaps(gaps: [&[u8]; 3]) -> Vec<u8> {
+        let [first, second, third] = gaps.map(|gap| gap.len() as u8);
+        let (steps, starts) = (17 + first, 21 + first + second + third);
+        let rule = steps + second;
+        let head = [16, 0, 1, 0, steps, 0, 0, 0, rule, 0, 4, 0, starts, 0, 1, 0];
+        [
+            &head[..],
+            &[7],
+            gaps[0],
+            gaps[1],
+            &[5, 0, 0, 0],
+            gaps[2],
+            &[0],
+        ]
+        .concat()
+    }
+
+    #[test]
+    fn up_to_three_bytes_0_stand_between_sections() {
+        let packed = parse(&with_gaps([&[]; 3])).unwrap();
+        assert_eq!(
+            (&packed.labels[..], &packed.starts[..]),
+            (&[7][..], &[0][..])
+        );
+        for gaps in [[1, 0, 0], [0, 2, 0], [0, 0, 3], [3, 3, 3]] {
+            let file = with_gaps(gaps.map(|gap| &[0; 3][..gap]));
+            assert_eq!(parse(&file), Ok(packed.clone()), "{gaps:?}");
+        }
+        let file = with_gaps([&[0, 0], &[0, 0, 0], &[0]]);
+        let parts = [16..17, 19..19, 22..26, 27..28];
+        for (section, part) in parts.into_iter().enumerate() {
+            assert_eq!(open(&file, section), Ok(part));
+        }
+    }
+
+    #[test]
+    fn nothing_else_stands_between_them() {
+        let refused = Err(Refusal::new(1, 0));
+        for place in 0..3 {
+            for gap in [&[0, 0, 0, 0][..], &[1], &[0, 255], &[0, 0, 1], &[8, 0, 0]] {
+                let mut gaps: [&[u8]; 3] = [&[]; 3];
+                gaps[place] = gap;
+                assert_eq!(parse(&with_gaps(gaps)), refused, "{place}: {gap:?}");
+            }
+        }
+        // One byte less in an offset, so that two sections share a byte; and a byte at the end.
+        for at in [4, 8, 12] {
+            let mut file = with_gaps([&[]; 3]);
+            file[at] -= 1;
+            file[at + 2] += 1;
+            assert_eq!(parse(&file), refused, "{at}");
+        }
+        let file = [&with_gaps([&[]; 3])[..], &[0]].concat();
+        assert_eq!(parse(&file), refused);
     }
 }

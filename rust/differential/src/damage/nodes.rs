@@ -1,9 +1,9 @@
 //! Faults of rows 5 to 7.
-use super::{beyond, damaged, Damaged};
+use super::{beyond, damaged_case, Damaged};
 use crate::generate::{case, case_where, drawn_where};
 use crate::rng::Rng;
 use plain::kinds::{self, values_of_a};
-use plain::{write, Case, Shape, Triple};
+use plain::{Case, Shape, Triple};
 
 /// The numbers of the nodes that are wanted.
 fn nodes_where(case: &Case, wanted: impl Fn(Triple) -> bool) -> Vec<usize> {
@@ -22,7 +22,7 @@ pub fn kind(rng: &mut Rng) -> Damaged {
     let mut case = case(rng);
     let place = rng.below(case.nodes.len());
     case.nodes[place].0 = beyond(rng, kinds::COUNT);
-    damaged(write(&case), 5, place)
+    damaged_case(rng, &case, 5, place)
 }
 
 pub fn unused_byte(rng: &mut Rng) -> Damaged {
@@ -31,7 +31,7 @@ pub fn unused_byte(rng: &mut Rng) -> Damaged {
     let is_a = values_of_a(node.0) == Some(1) && rng.one_in(2);
     let unused = if is_a { &mut node.1 } else { &mut node.2 };
     *unused = beyond(rng, 1);
-    damaged(write(&case), 5, place)
+    damaged_case(rng, &case, 5, place)
 }
 
 /// A proposition, variable or action beyond the last one. No group is: it can be any byte.
@@ -40,7 +40,7 @@ pub fn range(rng: &mut Rng) -> Damaged {
     let node = &mut case.nodes[place];
     let values = values_of_a(node.0).expect("A is no node");
     node.1 = beyond(rng, values);
-    damaged(write(&case), 5, place)
+    damaged_case(rng, &case, 5, place)
 }
 
 /// A node that names itself or a higher one.
@@ -50,7 +50,7 @@ pub fn named(rng: &mut Rng) -> Damaged {
     let left = matches!(Shape::of(*node), Shape::Two(..)) && rng.one_in(2);
     let named = if left { &mut node.1 } else { &mut node.2 };
     *named = beyond(rng, place);
-    damaged(write(&case), 5, place)
+    damaged_case(rng, &case, 5, place)
 }
 
 /// Of the binders that get the first one's variable, the lowest is the place.
@@ -67,7 +67,7 @@ pub fn second_binder(rng: &mut Rng) -> Damaged {
             case.nodes[later].1 = variable;
         }
     }
-    damaged(write(&case), 6, binders[second])
+    damaged_case(rng, &case, 6, binders[second])
 }
 
 pub fn free_variable(rng: &mut Rng) -> Damaged {
@@ -75,21 +75,21 @@ pub fn free_variable(rng: &mut Rng) -> Damaged {
     let all = 0..drawn.free.len();
     let open: Vec<usize> = all.filter(|&j| drawn.free[j] != 0).collect();
     drawn.case.root = rng.pick(&open) as u8;
-    damaged(write(&drawn.case), 7, 0)
+    damaged_case(rng, &drawn.case, 7, 0)
 }
 
 #[cfg(test)]
 mod tests {
     use super::*;
     use crate::groups::has_group;
+    use crate::padding::sections;
 
     /// The nodes at the places of so many faults.
     fn faults(damage: fn(&mut Rng) -> Damaged, count: usize) -> Vec<Triple> {
         let mut rng = Rng::new(1);
         let fault = |_| {
             let Damaged { file, refusal } = damage(&mut rng);
-            // The rule begins where its pair says.
-            let rule = usize::from(u16::from_le_bytes([file[8], file[9]]));
+            let rule = sections(&file)[2].start;
             let node = &file[rule + 3 * refusal.place..];
             (node[0], node[1], node[2])
         };

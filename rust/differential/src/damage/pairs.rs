@@ -1,11 +1,18 @@
 //! Faults of row 1.
 use super::{damaged, Damaged};
 use crate::generate::{case, case_where};
+use crate::padding::{self, gaps, sections, set_number, write_padded};
 use crate::rng::Rng;
 use plain::{pack, write, Case, PAIRS_LENGTH};
 
+/// The file of a valid case, packed or padded.
+fn random(rng: &mut Rng) -> Vec<u8> {
+    let case = case(rng);
+    padding::file(rng, &case)
+}
+
 pub fn cut(rng: &mut Rng) -> Damaged {
-    let mut file = write(&case(rng));
+    let mut file = random(rng);
     let most = if rng.one_in(2) { 3 } else { file.len() };
     let lost = rng.within(1..=most);
     file.truncate(file.len() - lost);
@@ -13,7 +20,7 @@ pub fn cut(rng: &mut Rng) -> Damaged {
 }
 
 pub fn lengthened(rng: &mut Rng) -> Damaged {
-    let mut file = write(&case(rng));
+    let mut file = random(rng);
     let more = rng.within(1..=4);
     file.extend(rng.bytes(more));
     damaged(file, 1, 0)
@@ -21,24 +28,31 @@ pub fn lengthened(rng: &mut Rng) -> Damaged {
 
 /// Right pairs in a file over the longest case.
 pub fn too_long(rng: &mut Rng) -> Damaged {
-    let mut case = case(rng);
-    let more = rng.within(6386..=6420) - write(&case).len();
+    let (mut case, gaps) = (case(rng), gaps(rng));
+    let length = rng.within(6395..=6430);
+    let more = length - write_padded(&case, gaps).len();
     case.labels.extend(rng.bytes(more));
-    damaged(write(&case), 1, 0)
+    damaged(write_padded(&case, gaps), 1, 0)
 }
 
-/// One of the eight numbers is wrong.
+/// One of the eight numbers of a packed file is wrong. No length is one less, since the byte that it
+/// leaves out would be padding if it is 0.
 pub fn nudged(rng: &mut Rng) -> Damaged {
     let mut file = write(&case(rng));
     let at = 2 * rng.below(8);
-    let number = u16::from_le_bytes([file[at], file[at + 1]]);
-    let nudge = rng.pick(&[1, u16::MAX, 16, 256, 32_768]);
-    file[at..at + 2].copy_from_slice(&number.wrapping_add(nudge).to_le_bytes());
+    let is_offset = at.is_multiple_of(4);
+    let nudges: &[usize] = if is_offset {
+        &[1, 65_535, 16, 256, 32_768]
+    } else {
+        &[1, 16, 256, 32_768]
+    };
+    let nudge = rng.pick(nudges);
+    set_number(&mut file, at, |number| number + nudge);
     damaged(file, 1, 0)
 }
 
 pub fn swapped(rng: &mut Rng) -> Damaged {
-    let mut file = write(&case(rng));
+    let mut file = random(rng);
     let second = rng.within(1..=3);
     let (first, second) = (4 * rng.below(second), 4 * second);
     for byte in 0..4 {
@@ -73,14 +87,14 @@ pub fn three(rng: &mut Rng) -> Damaged {
 /// The file that the case had then.
 pub fn without_starts(case: &Case) -> Vec<u8> {
     let file = write(case);
-    let part = |section| &file[plain::open(&file, section).expect("a valid case")];
-    pack(&[0, 1, 2].map(part))
+    let [labels, steps, rule, _] = sections(&file).map(|part| &file[part]);
+    pack(&[labels, steps, rule])
 }
 
 /// The file ends within the list, or before it.
 pub fn starts_cut(rng: &mut Rng) -> Damaged {
     let case = case_where(rng, |case| !case.starts.is_empty());
-    let mut file = write(&case);
+    let mut file = padding::file(rng, &case);
     file.truncate(file.len() - rng.within(1..=case.starts.len()));
     damaged(file, 1, 0)
 }

@@ -1,5 +1,6 @@
 //! Faults of rows 2 to 4.
-use super::{beyond, damaged, roomy, Damaged};
+use super::{beyond, damaged, damaged_case, roomy, Damaged};
+use crate::padding::{gaps, padded, sections};
 use crate::rng::Rng;
 use plain::{pack, write, Case};
 
@@ -11,14 +12,14 @@ pub fn label_count(rng: &mut Rng) -> Damaged {
         _ => rng.within(17..=600),
     };
     case.labels.resize(count, 0);
-    damaged(write(&case), 2, 0)
+    damaged_case(rng, &case, 2, 0)
 }
 
 pub fn step_length(rng: &mut Rng) -> Damaged {
     let case = roomy(rng, |_| true);
     let more = rng.within(1..=2);
     let file = with_section(&case, 1, |steps| steps.extend(rng.bytes(more)));
-    damaged(file, 3, 0)
+    damaged(padded(&file, gaps(rng)), 3, 0)
 }
 
 pub fn step_range(rng: &mut Rng) -> Damaged {
@@ -31,21 +32,21 @@ pub fn step_range(rng: &mut Rng) -> Damaged {
         1 => step.1 = beyond(rng, 8),
         _ => step.2 = beyond(rng, states),
     }
-    damaged(write(&case), 3, place)
+    damaged_case(rng, &case, 3, place)
 }
 
 pub fn step_order(rng: &mut Rng) -> Damaged {
     let mut case = roomy(rng, |case| case.steps.len() > 1);
     let place = rng.within(1..=case.steps.len() - 1);
     case.steps.swap(place - 1, place);
-    damaged(write(&case), 3, place)
+    damaged_case(rng, &case, 3, place)
 }
 
 pub fn step_repeated(rng: &mut Rng) -> Damaged {
     let mut case = roomy(rng, |case| !case.steps.is_empty());
     let place = rng.within(1..=case.steps.len());
     case.steps.insert(place, case.steps[place - 1]);
-    damaged(write(&case), 3, place)
+    damaged_case(rng, &case, 3, place)
 }
 
 pub fn rule_length(rng: &mut Rng) -> Damaged {
@@ -58,7 +59,7 @@ pub fn rule_length(rng: &mut Rng) -> Damaged {
             rule.extend(rng.bytes(by));
         }
     });
-    damaged(file, 4, 0)
+    damaged(padded(&file, gaps(rng)), 4, 0)
 }
 
 pub fn node_count(rng: &mut Rng) -> Damaged {
@@ -69,41 +70,40 @@ pub fn node_count(rng: &mut Rng) -> Damaged {
         _ => rng.within(65..=300),
     };
     case.nodes.resize(count, (0, 0, 0));
-    damaged(write(&case), 4, 0)
+    damaged_case(rng, &case, 4, 0)
 }
 
 pub fn root(rng: &mut Rng) -> Damaged {
     let mut case = roomy(rng, |_| true);
     case.root = beyond(rng, case.nodes.len());
-    damaged(write(&case), 4, 0)
+    damaged_case(rng, &case, 4, 0)
 }
 
 /// A list that rises, with a state behind the others that the table does not have.
 pub fn start_range(rng: &mut Rng) -> Damaged {
     let mut case = roomy(rng, |_| true);
     case.starts.push(beyond(rng, case.labels.len()));
-    damaged(write(&case), 4, 0)
+    damaged_case(rng, &case, 4, 0)
 }
 
 pub fn start_order(rng: &mut Rng) -> Damaged {
     let mut case = roomy(rng, |case| case.starts.len() > 1);
     let place = rng.within(1..=case.starts.len() - 1);
     case.starts.swap(place - 1, place);
-    damaged(write(&case), 4, 0)
+    damaged_case(rng, &case, 4, 0)
 }
 
 pub fn start_repeated(rng: &mut Rng) -> Damaged {
     let mut case = roomy(rng, |case| !case.starts.is_empty());
     let place = rng.below(case.starts.len());
     case.starts.insert(place, case.starts[place]);
-    damaged(write(&case), 4, 0)
+    damaged_case(rng, &case, 4, 0)
 }
 
-/// The file with a section changed, under right pairs.
+/// The packed file with a section changed, under right pairs.
 fn with_section(case: &Case, section: usize, change: impl FnOnce(&mut Vec<u8>)) -> Vec<u8> {
     let file = write(case);
-    let part = |section| file[plain::open(&file, section).expect("a valid case")].to_vec();
-    let mut parts = [0, 1, 2, 3].map(part);
+    let mut parts = sections(&file).map(|part| file[part].to_vec());
     change(&mut parts[section]);
     pack(&parts.each_ref().map(Vec::as_slice))
 }

@@ -1,8 +1,8 @@
 //! The script over the proved program: where a case may come from, and its answer.
 use crate::calls::{folder, script, shells, Outcome, Wrapper};
 use differential::drives::{drives, folder as cases, longest, read};
+use differential::padding::{write_padded, WIDEST};
 use differential::printed::wanted;
-use plain::write;
 use std::env;
 use std::fs::{self, File, Permissions};
 use std::os::unix::fs::{symlink, PermissionsExt};
@@ -123,7 +123,7 @@ fn help() {
 #[test]
 fn refusals() {
     let wrapper = wrapper("refusals");
-    let longest = write(&longest());
+    let longest = write_padded(&longest(), WIDEST);
     each_answers(&wrapper, "judge", &longest, "refused 9 0\n");
     for length in [0, 1, longest.len() + 1, 65_535, 65_536, 65_537, 300_000] {
         let mut file = longest.clone();

@@ -18,7 +18,7 @@ fn prints_that_are_answers() {
         "states 2\\nrounds 18446744073709551615\\n0 yes\\n1 no\\nstarts yes\\n",
         "states 1\\nrounds 1\\n0 no\\nstarts no\\n",
         "refused 1 0\\n",
-        "refused 13 6385\\n",
+        "refused 13 6394\\n",
     ]
     .into_iter()
     .enumerate()

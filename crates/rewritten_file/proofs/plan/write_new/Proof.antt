@@ -1,7 +1,8 @@
 -- `rewritten_file::plan::write_new` meets its contract: the head, two sections that stay, the rule and the section behind it, one after the other.
 use native.Mathlib.Omega.{arith}
 use borrow.Author.Needs.{needs}
-use Rattle.rewritten_file.proofs.NewFile.{section-length, new-length, new-short, rule-length, laid-new}
+use Rattle.case_model.proofs.Sections.{section-length}
+use Rattle.rewritten_file.proofs.NewFile.{new-length, new-short, rule-length, laid-new}
 use Rattle.rewritten_file.proofs.plan.write_new.Statement.{statement}
 use Rattle.rewritten_file.proofs.plan.write_new.Tie as tie
 
