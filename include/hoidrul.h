@@ -36,7 +36,7 @@ extern "C" {
 
 /* A case is a head of 16 bytes and four sections. For each section the head has its offset and its length, two bytes
  * each, the low one first. The first section begins behind the head, any other where the one before ends or up to
- * three bytes behind; these bytes, its padding, are 0. The file ends where the last section ends. A padded file gets
+ * three bytes later; the bytes between, the padding, are 0. The file ends where the last section ends. A padded file gets
  * the replies of the packed one, which has the same sections without padding, but for the offsets that opening tells.
  *
  * The sections: a label byte a state; steps of three bytes (from, action, to); nodes of three bytes

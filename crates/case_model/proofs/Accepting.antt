@@ -28,15 +28,16 @@ start-next (s ∷ l) from zero h = omega (arith, length-append s [])
 start-next (s ∷ l) from (suc k) h =
     omega (arith, start-next l from k (le-of-suc-le-suc h), length-append s (joined (take k l)), length-append s (joined (take (suc k) l)))
 
--- no byte is padding
-pub padding-none : (f : List ℕ) (at : ℕ) → padding f at at ≡ true
+-- a gap of no bytes is padding
+padding-none : (f : List ℕ) (at : ℕ) → padding f at at ≡ true
 unfolding padding forAll
 padding-none f at = let z : at - at ≡ 0 = omega arith in rw (le-leb at at (omega arith), z)
 
--- section k and n more
+-- of a packed file, a section ends where the next begins
 packed-end : (l : List (List ℕ)) (k : ℕ) → k < length l → end (packed l) k ≡ start (4 * length l) l (suc k)
 packed-end l k h = omega (arith, packed-offset l k h, packed-size l k h, start-next l (4 * length l) k h)
 
+-- section k and n more
 packed-chained : (l : List (List ℕ)) (n k : ℕ) → suc (k + n) ≡ length l → chained (packed l) k n ≡ true
 unfolding chained
 packed-chained l zero k e =

@@ -105,25 +105,11 @@ module _ (l : List (List ℕ)) where
 
   -- a section that begins with triples
   packed-triples : (k : ℕ) (t : List Triple) (r : List ℕ) → k < length l → getD l k [] ≡ flat t ++ r → length r < 3
-      → listOf (size (packed l) k / 3) (λ i. tripleAt (packed l) (offset (packed l) k + 3 * i)) ≡ t
+      → listOf (size (packed l) k / 3) (λ i. tripleAt (section (packed l) k) (3 * i)) ≡ t
   packed-triples k t r h e b =
-      let m : size (packed l) k / 3 ≡ length t = omega (arith, packed-size k h, long) in
-      rw m (listOf-ext (length t) _ (at t) triple ∙ listOf-getD t (0, 0, 0))
-    where
-      long : length (getD l k []) ≡ 3 * length t + length r
-      long = ap length e ∙ simp (length-append, length-flat)
-
-      byte : (x y : ℕ) → x < length (getD l k []) → y ≡ offset (packed l) k + x → byteAt (packed l) y ≡ byteAt (flat t ++ r) x
-      byte x y b q = rw (q, packed-at k x h b, e)
-
-      triple : (i : ℕ) → i < length t → tripleAt (packed l) (offset (packed l) k + 3 * i) ≡ at t i
-      triple i b =
-          let n : length (getD l k []) ≡ 3 * length t + length r = long in
-          let o : ℕ = offset (packed l) k + 3 * i in
-          let b0 = byte (3 * i) o (omega arith) refl in
-          let b1 = byte (3 * i + 1) (o + 1) (omega arith) (omega arith) in
-          let b2 = byte (3 * i + 2) (o + 2) (omega arith) (omega arith) in
-          (λ z. (b0 z, b1 z, b2 z)) ∙ flat-at t r i b
+      let long : length (getD l k []) ≡ 3 * length t + length r = ap length e ∙ simp (length-append, length-flat) in
+      let m : size (packed l) k / 3 ≡ length t = omega (arith, packed-size k h) in
+      rw (m, packed-section k h, e) (listOf-ext (length t) _ (at t) (flat-at t r) ∙ listOf-getD t (0, 0, 0))
 
 -- ---- a written case
 module _ (c : Case) where

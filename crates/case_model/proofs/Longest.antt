@@ -1,6 +1,6 @@
 -- No case is longer than the limit, and one is as long: sixteen states, all of them start states, every step that there can be, 64 nodes, padded.
 -- The lengths of the sections add up, with three bytes between two of them at most.
-use Prim.Native.Nat.{ℕ, suc, _+_, _*_, _/_, _≤_, _<_}
+use Prim.Native.Nat.{ℕ, suc, _*_, _/_, _≤_, _<_}
 use mathlib.Core.Bool.{true, false}
 use mathlib.Core.List.{List, []}
 use mathlib.Core.Path.{_≡_, refl, _∙_}
@@ -9,7 +9,7 @@ use borrow.Author.Tests.{lt-ltb}
 use lib.Dec.{ltb}
 use lib.ListN.{length, replicate, length-replicate, getD-replicate}
 use Rattle.case_model.specs.Limits.{Limits, mostStates, standard}
-use Rattle.case_model.specs.Bytes.{listOf, byteAt, offset, size, pairsHold}
+use Rattle.case_model.specs.Bytes.{listOf, byteAt, size, pairsHold, section}
 use Rattle.case_model.specs.Case.{Case, tripleAt, read, parts, write, at, nodeAt, rule}
 use Rattle.case_model.specs.Longest.{LongestCase}
 use Rattle.flc.specs.Sets.{both, forAll}
@@ -46,8 +46,8 @@ most-bytes f allowed ok =
       section-gap limits f e 2 (omega arith),
       last-end limits f e,
       section-length f 0,
-      length-listOf (size f 1 / 3) (λ i. tripleAt f (offset f 1 + 3 * i)),
-      length-listOf (size f 2 / 3) (λ i. tripleAt f (offset f 2 + 3 * i)),
+      length-listOf (size f 1 / 3) (λ i. tripleAt (section f 1) (3 * i)),
+      length-listOf (size f 2 / 3) (λ i. tripleAt (section f 2) (3 * i)),
       section-length f 3,
       steps-whole limits f ok,
       rule-whole limits f ok,

@@ -1,6 +1,6 @@
 -- Padding is no part of a case: two files with the same sections are the same case, are refused alike, and every entry replies the same of both.
 -- What is read is read from a section, and each reply is made of the case and of what the rows find.
-use Prim.Native.Nat.{ℕ, _+_, _*_, _/_, _%_, _^_, _≤_, _<_, min, max}
+use Prim.Native.Nat.{ℕ, _*_, _/_, _%_, _^_, _≤_, _<_, min, max}
 use mathlib.Core.Bool.{Bool, true, _&&_}
 use mathlib.Core.List.{List, [], _∷_}
 use mathlib.Core.Path.{_≡_, refl, sym, ap, ap₂, _∙_, subst}
@@ -10,7 +10,7 @@ use borrow.Author.Tests.{le-ltb}
 use lib.Dec.{eqb, leb, ltb}
 use lib.ListN.{length, length-append}
 use Rattle.case_model.specs.Limits.{sections, mostNodes, standard}
-use Rattle.case_model.specs.Bytes.{listOf, byteAt, offset, size, pairsHold, section, packed}
+use Rattle.case_model.specs.Bytes.{listOf, byteAt, size, pairsHold, section, packed}
 use Rattle.case_model.specs.Case.{Case, read, tripleAt, triples, write, table}
 use Rattle.case_model.specs.Rows.{Found, sound, refused, _orElse_, unless, lowest, stepWrong, startsRise, row2, row5, row6, row7, row8, refusals}
 use Rattle.case_model.specs.Replies.{Reply, answers, refuses, replied, counts, opened, vetting, opening, row13, counted}
@@ -20,9 +20,9 @@ use Rattle.case_model.specs.Rewriting.{Change, change, isThere, rewrite,
 use Rattle.case_model.specs.Book.{Edit, merges, rewrites, Book, begun, reply, entered, turn}
 use Rattle.case_model.specs.Run.{replies}
 use Rattle.case_model.specs.Padding.{PaddingAside, repacked, SameReplies}
-use Rattle.case_model.proofs.Lists.{length-listOf, getD-listOf, listOf-ext}
+use Rattle.case_model.proofs.Lists.{length-listOf, getD-listOf}
 use Rattle.case_model.proofs.Sections.{section-length, head-first, section-gap, within, within-longest}
-use Rattle.case_model.proofs.Valid.{steps-whole, rule-whole}
+use Rattle.case_model.proofs.Valid.{accepted-pairs, steps-whole, rule-whole}
 use Rattle.case_model.proofs.SectionBytes.{steps-bytes, rule-bytes}
 use Rattle.case_model.proofs.Codec.{length-packed, packed-section}
 use Rattle.case_model.proofs.Accepting.{packed-holds}
@@ -41,26 +41,8 @@ module _ {f g : List ℕ} (p : PaddingAside f g) where
   pub sizes : (k : ℕ) → k < sections → size f k ≡ size g k
   sizes k h = sym (section-length f k) ∙ ap length (p .same k h) ∙ section-length g k
 
-  -- byte x of a section
-  bytes : (k : ℕ) → k < sections → (x : ℕ) → x < size f k → byteAt f (offset f k + x) ≡ byteAt g (offset g k + x)
-  unfolding section
-  bytes k h x l =
-      sym (getD-listOf (size f k) _ 0 x l) ∙ ap (λ s. byteAt s x) (p .same k h) ∙ getD-listOf (size g k) _ 0 x (omega (arith, sizes k h))
-
   triples-same : (k : ℕ) → k < sections → triples f k ≡ triples g k
-  triples-same k h =
-      listOf-ext (size f k / 3) _ (λ i. tripleAt g (offset g k + 3 * i)) triple
-      ∙ ap (λ n. listOf (n / 3) (λ i. tripleAt g (offset g k + 3 * i))) (sizes k h)
-    where
-      byte : (x y z : ℕ) → x < size f k → y ≡ offset f k + x → z ≡ offset g k + x → byteAt f y ≡ byteAt g z
-      byte x y z l d e = rw (d, e) (bytes k h x l)
-
-      triple : (i : ℕ) → i < size f k / 3 → tripleAt f (offset f k + 3 * i) ≡ tripleAt g (offset g k + 3 * i)
-      triple i l =
-          let first = byte (3 * i) _ _ (omega arith) refl refl in
-          let second = byte (3 * i + 1) (offset f k + 3 * i + 1) (offset g k + 3 * i + 1) (omega arith) (omega arith) (omega arith) in
-          let third = byte (3 * i + 2) (offset f k + 3 * i + 2) (offset g k + 3 * i + 2) (omega arith) (omega arith) (omega arith) in
-          λ z. (first z, second z, third z)
+  triples-same k h = λ z. listOf (sizes k h z / 3) (λ i. tripleAt (p .same k h z) (3 * i))
 
   pub read-same : read f ≡ read g
   read-same = λ z. record {
@@ -145,9 +127,12 @@ module _ (f : List ℕ) where
   unfolding repacked listOf write
   repacked-written ok = λ z. packed (section f 0 ∷ steps-bytes f (steps-whole standard f ok) z ∷ rule-bytes f (rule-whole standard f ok) z ∷ section f 3 ∷ [])
 
-  -- clause 1.17, of a file that row 1 does not refuse
+  -- clause 1.17, of a file that row 1 does not refuse and its sections packed, and of an accepted file and the packed file of its case
   pub as-packed : pairsHold standard f ≡ true → SameReplies f (repacked f)
   as-packed e = padding-aside (repacked-aside e)
+
+  pub as-written : refusals standard f ≡ sound → SameReplies f (write (read f))
+  as-written ok = subst (SameReplies f) (repacked-written ok) (as-packed (accepted-pairs standard f ok))
 
 -- ---- a list of edits
 -- the books' files are one file, or differ in padding alone

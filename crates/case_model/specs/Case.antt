@@ -7,7 +7,7 @@ use lib.Dec.{eqb}
 use Rattle.flc.specs.Sets.{both, either}
 use Rattle.flc.specs.Formula.{Table, Formula}
 use Rattle.flc.specs.Nodes.{Node, formulaAt}
-use Rattle.case_model.specs.Bytes.{listOf, byteAt, offset, size, section, packed}
+use Rattle.case_model.specs.Bytes.{listOf, byteAt, size, section, packed}
 use Rattle.case_model.specs.Kinds.{Triple, nodeOf}
 
 pub record Case : Type 0 where
@@ -19,13 +19,13 @@ pub record Case : Type 0 where
 
 -- ---- reading and writing
 abbrev pub tripleAt : List ℕ → ℕ → Triple
-tripleAt f at = (byteAt f at, byteAt f (at + 1), byteAt f (at + 2))
+tripleAt l at = (byteAt l at, byteAt l (at + 1), byteAt l (at + 2))
 
 -- the whole triples of section k
 abbrev pub triples : List ℕ → ℕ → List Triple
-triples f k = listOf (size f k / 3) (λ i. tripleAt f (offset f k + 3 * i))
+triples f k = listOf (size f k / 3) (λ i. tripleAt (section f k) (3 * i))
 
--- clauses 1.4, 1.5, 1.6 and 1.16: labels, steps, nodes, the root behind the nodes, and start states
+-- clauses 1.4, 1.5, 1.6 and 1.16: labels, steps, nodes, the root behind the nodes, and start states, each from its section
 abbrev pub read : List ℕ → Case
 read f = record {
   labels = section f 0;

@@ -1,4 +1,4 @@
--- Padding aside: which files differ in their padding alone, and what it is that two files are replied alike: docs/SPECIFICATION.md, clause 1.17.
+-- Padding aside: which files differ in their padding alone, and when two files get the same replies: docs/SPECIFICATION.md, clauses 1.2 and 1.17.
 use Prim.Native.Nat.{ℕ, _+_, _<_}
 use mathlib.Core.Bool.{true}
 use mathlib.Core.List.{List}

@@ -10,4 +10,4 @@ pub struct Limits {
 pub const NODES: usize = 64;
 
 // How many bytes of padding there can be between two sections.
-pub const PADDING: usize = 3;
+pub(crate) const PADDING: usize = 3;

@@ -49,23 +49,22 @@ pub placed-nodes : (c : Case) (j : ℕ) (s : Shape) → s .added ≤ 2 → (g : 
 placed-nodes c j s h g w = omega (arith, placed-length s h, length-new c j (placed s) g w)
 
 -- ---- what is read from bytes
-labels-small : (f : List ℕ) → ((i : ℕ) → byteAt f i < 256) → (i : ℕ) → byteAt (section f 0) i < 256
+section-small : (f : List ℕ) → ((i : ℕ) → byteAt f i < 256) → (k i : ℕ) → byteAt (section f k) i < 256
 unfolding section
-labels-small f h i = elim (decLt i (size f 0)) [
-  | yes l ↦ rw (getD-listOf (size f 0) (λ i. byteAt f (offset f 0 + i)) 0 i l) (h (offset f 0 + i))
-  | no l ↦ rw (getD-listOf-end (size f 0) (λ i. byteAt f (offset f 0 + i)) 0 i (omega arith)) (omega arith)
+section-small f h k i = elim (decLt i (size f k)) [
+  | yes l ↦ rw (getD-listOf (size f k) (λ i. byteAt f (offset f k + i)) 0 i l) (h (offset f k + i))
+  | no l ↦ rw (getD-listOf-end (size f k) (λ i. byteAt f (offset f k + i)) 0 i (omega arith)) (omega arith)
 ]
 
 node-small : (f : List ℕ) → ((i : ℕ) → byteAt f i < 256) → (i : ℕ) → i < length (read f .nodes)
     → (t : code.Triple) → triple t ≡ at (read f .nodes) i → ByteTriple t
 node-small f h i l t e =
-    let o : ℕ = offset f 2 + 3 * i in
-    let g : ℕ → Triple = λ i. tripleAt f (offset f 2 + 3 * i) in
-    let q : triple t ≡ tripleAt f o = e ∙ getD-listOf (size f 2 / 3) g (0, 0, 0) i (omega (arith, length-listOf (size f 2 / 3) g)) in
+    let g : ℕ → Triple = λ i. tripleAt (section f 2) (3 * i) in
+    let q : triple t ≡ g i = e ∙ getD-listOf (size f 2 / 3) g (0, 0, 0) i (omega (arith, length-listOf (size f 2 / 3) g)) in
     record {
-      first = omega (arith, ap (λ (t : Triple). t .0) q, h o);
-      second = omega (arith, ap (λ (t : Triple). t .1) q, h (o + 1));
-      third = omega (arith, ap (λ (t : Triple). t .2) q, h (o + 2));
+      first = omega (arith, ap (λ (t : Triple). t .0) q, section-small f h 2 (3 * i));
+      second = omega (arith, ap (λ (t : Triple). t .1) q, section-small f h 2 (3 * i + 1));
+      third = omega (arith, ap (λ (t : Triple). t .2) q, section-small f h 2 (3 * i + 2));
     }
 
 -- ---- a right plan
@@ -80,7 +79,7 @@ module _ {f : List ℕ} {p : Plan} (h : Planned f p) where
   valid = rewritten-valid old (h .law) (p .j) (h .is) (omega (arith, h .nodes, h .few))
 
   bytes : (i : ℕ) → byteAt (write (renewed f p)) i < 256
-  bytes = write-bytes (renewed f p) valid (unfold rewrite in labels-small f (h .bytes))
+  bytes = write-bytes (renewed f p) valid (unfold rewrite in section-small f (h .bytes) 0)
 
   pub new-small : (i : ℕ) → i < p .nodes → (t : code.Triple) → triple t ≡ at (renewed f p .nodes) i → ByteTriple t
   new-small i l =

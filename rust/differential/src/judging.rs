@@ -50,7 +50,7 @@ pub fn proved_starts(file: &[u8], words: usize) -> Result<bool, Refusal> {
 }
 
 /// Judges a valid case on these sets by the proved library, compares with the root's function by
-/// the plain checker, and returns the rounds. The file's padding is another for each set.
+/// the plain checker, and returns the rounds. The gaps follow the set's number.
 pub fn compare_sets(case: &Case, sets: &[u16]) -> u64 {
     let words = needed(&plain::write(case));
     let root = plain::meaning(case);
@@ -66,7 +66,7 @@ pub fn compare_sets(case: &Case, sets: &[u16]) -> u64 {
 }
 
 /// Judges a valid case of one or two states on every set by both checkers, compares with meet and
-/// join of all monotone functions, and returns the rounds. The four sets have gaps of 0 to 3 bytes.
+/// join of all monotone functions, and returns the rounds. Set k is judged in a file with gaps of k bytes.
 pub fn compare_with_all_functions(case: &Case) -> u64 {
     let states = case.labels.len();
     let (values, rounds) = plain::meaning_by_all_functions(case);

@@ -29,7 +29,7 @@ pub fn gaps(rng: &mut Rng) -> Gaps {
     }
 }
 
-/// The file of a random case, with padding or without.
+/// The file of a case, packed or with random gaps.
 pub fn file(rng: &mut Rng, case: &Case) -> Vec<u8> {
     write_padded(case, gaps(rng))
 }
@@ -44,9 +44,8 @@ pub fn padded(packed: &[u8], gaps: Gaps) -> Vec<u8> {
     for (section, part) in sections(packed).into_iter().enumerate() {
         let gap = if section == 0 { 0 } else { gaps[section - 1] };
         file.resize(file.len() + gap, 0);
-        set_number(&mut file, 4 * section, |_| {
-            part.start + gap_before(gaps, section)
-        });
+        let start = file.len();
+        set_number(&mut file, 4 * section, |_| start);
         file.extend(&packed[part]);
     }
     file

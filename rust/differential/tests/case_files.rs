@@ -33,7 +33,7 @@ fn the_aligned_file_has_its_bytes() {
     assert_eq!(read(ALIGNED), ALIGNED_BYTES);
 }
 
-/// It prints what the packed file prints. The root is a chop, so that there are no rounds.
+/// The program has to print the same of both. The root is a chop, so that there are no rounds.
 #[test]
 fn the_aligned_file_is_another_one_padded() {
     let packed = read("pulled_back_fed_again.case");

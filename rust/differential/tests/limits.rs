@@ -122,15 +122,13 @@ fn file_lengths() {
         assert_eq!(compare(&longer, 0), refused(1, 0));
     }
 
-    // Right pairs, so only the length of the file is wrong for row 1.
+    // Right pairs: row 1 refuses only the file that is too long, row 2 the others.
     case.labels.push(0);
     for (gaps, length, row) in [(PACKED, 6386, 2), ([3, 3, 2], 6394, 2), (WIDEST, 6395, 1)] {
         let file = write_padded(&case, gaps);
         assert_eq!(file.len(), length);
         assert_eq!(compare(&file, 0), refused(row, 0), "{length}");
     }
-    case.steps.pop();
-    assert_eq!(compare(&write_padded(&case, WIDEST), 0), refused(2, 0));
 }
 
 /// A start state more is one that the table does not have: it gets row 4, and row 1 in a file that

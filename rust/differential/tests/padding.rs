@@ -26,7 +26,7 @@ struct Replies {
 fn replies(file: &[u8]) -> Replies {
     let (states, nodes) = plain::vet(file, 0).unwrap_or((2, 2));
     let opened = |section| in_plain(hoidrul::open(file, section)).map(<[u8]>::to_vec);
-    // The plain checker judges small cases soon; of others no work area is lent.
+    // The plain checker judges small cases soon; for others no work area is lent.
     let needed = (2 * nodes) << states;
     let words = if needed <= 2_000 { needed } else { 0 };
     let all = ((1_u32 << states) - 1) as u16;
@@ -55,11 +55,15 @@ fn edits(states: usize, nodes: usize) -> impl Iterator<Item = (Edit, usize)> {
     both.flat_map(|edit| [(edit, LONGEST), (edit, 33)])
 }
 
+/// Two alike states and one that is not, without steps; the rule τ and tt.
+fn small() -> Case {
+    drives::case(&[0, 0, 1], &[], &[(5, 0, 0), (0, 0, 0), (9, 0, 1)])
+}
+
 /// Cases with and without steps and start states, so that padding stands on both sides of an empty
 /// section and at the end of the file; the longest, in which all states are alike; random ones.
 fn cases() -> Vec<Case> {
-    let no_steps = drives::case(&[0, 0, 1], &[], &[(5, 0, 0), (0, 0, 0), (9, 0, 1)]);
-    let mut cases = vec![starting_in(&[1, 2], no_steps.clone()), no_steps, longest()];
+    let mut cases = vec![starting_in(&[1, 2], small()), small(), longest()];
     cases.extend(drives().into_iter().map(|(_, case)| case));
     let mut rng = Rng::new(980);
     for i in 0..8 {
@@ -121,8 +125,8 @@ fn random_cases() {
 /// Room for the packed result is enough, though the file that is edited is longer.
 #[test]
 fn edits_write_packed_files() {
-    let case = drives::case(&[0, 0, 1], &[(2, 0, 2)], &[(5, 0, 0), (0, 0, 0), (9, 0, 1)]);
-    let case = starting_in(&[1, 2], case);
+    let mut case = starting_in(&[1, 2], small());
+    case.steps = vec![(2, 0, 2)];
     let merged = Case {
         labels: vec![0, 1],
         steps: vec![(1, 0, 1)],
@@ -148,10 +152,10 @@ fn edits_write_packed_files() {
     }
 }
 
-/// The comparison looks at every byte that is lent; here the refusals are those of the table.
+/// Each refusal of an edit, by its number; neither the area nor the padded file is changed.
 #[test]
 fn a_refused_edit_leaves_area_and_file() {
-    let case = drives::case(&[0, 0, 1], &[], &[(5, 0, 0), (0, 0, 0), (9, 0, 1)]);
+    let case = small();
     let full = Case {
         nodes: [&[(5, 0, 0), (10, 0, 0)][..], &[(10, 1, 0); 62]].concat(),
         ..case.clone()
@@ -188,7 +192,7 @@ fn refused_by_1(file: &[u8], what: &str) {
     assert_eq!(replies(file), expected, "{what}: {file:?}");
 }
 
-/// The file with so many bytes 0 put in, and the offsets of these sections and later ones moved.
+/// The file with so many bytes 0 put in, and the offsets of section `first` and later ones moved.
 fn put_in(file: &[u8], at: usize, bytes: usize, first: usize) -> Vec<u8> {
     let mut file = file.to_vec();
     file.splice(at..at, vec![0; bytes]);

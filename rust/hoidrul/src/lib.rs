@@ -3,12 +3,13 @@
 //! A case file holds one state table, one rule in Fixed Point Logic with Chop and a list of start
 //! states, in four sections: [`LABELS`], [`STEPS`], [`RULE`] and [`STARTS`]. A head tells for each
 //! where it begins and how many bytes it has; the first begins behind the head, any other where the
-//! one before ends or up to three bytes 0 behind, its padding. Six entries take such a file:
+//! one before ends or up to three bytes later, and the bytes between, the padding, are 0. Six entries
+//! take such a file:
 //!
 //! | Entry | Answers |
 //! |---|---|
 //! | [`vet`] | how many states and nodes the case has |
-//! | [`open`] | a section without its padding, as that part of the file |
+//! | [`open`] | a section without padding, as that part of the file |
 //! | [`judge`] | which states hold, and after how many rounds |
 //! | [`classes`] | which states are alike |
 //! | [`merge`] | the case with two alike states made one |

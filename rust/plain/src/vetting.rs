@@ -235,7 +235,7 @@ mod tests {
     }
 
     #[test]
-    fn up_to_three_bytes_0_stand_between_sections() {
+    fn sections_may_be_padded() {
         let packed = parse(&with_gaps([&[]; 3])).unwrap();
         assert_eq!(
             (&packed.labels[..], &packed.starts[..]),
@@ -253,7 +253,7 @@ mod tests {
     }
 
     #[test]
-    fn nothing_else_stands_between_them() {
+    fn other_bytes_are_no_padding() {
         let refused = Err(Refusal::new(1, 0));
         for place in 0..3 {
             for gap in [&[0, 0, 0, 0][..], &[1], &[0, 255], &[0, 0, 1], &[8, 0, 0]] {
@@ -270,6 +270,13 @@ mod tests {
             assert_eq!(parse(&file), refused, "{at}");
         }
         let file = [&with_gaps([&[]; 3])[..], &[0]].concat();
+        assert_eq!(parse(&file), refused);
+        // A byte 0 in front of section 0, under offsets that say so.
+        let mut file = with_gaps([&[]; 3]);
+        file.insert(16, 0);
+        for at in [0, 4, 8, 12] {
+            file[at] += 1;
+        }
         assert_eq!(parse(&file), refused);
     }
 }

@@ -64,7 +64,7 @@ mod tests {
     use super::*;
     use crate::padding::gaps_of;
 
-    /// Each gap is too wide in some file, and in one with one byte too many.
+    /// Each gap is too wide by one byte in some file, and by more in some other.
     #[test]
     fn every_gap_is_too_wide() {
         let mut rng = Rng::new(1);

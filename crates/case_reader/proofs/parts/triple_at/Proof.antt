@@ -2,7 +2,7 @@
 use borrow.Author.Needs.{needs}
 use Rattle.case_model.specs.Case.{triples}
 use mathlib.Core.Path.{ap, _∙_}
-use Rattle.case_reader.proofs.Readers.{past, found}
+use Rattle.case_reader.proofs.Readers.{past, triple-found}
 use Prim.Native.Nat.{_+_, _*_}
 use Rattle.case_model.specs.Case.{tripleAt}
 use Rattle.case_reader.proofs.parts.triple_at.Statement.{statement}
@@ -59,7 +59,7 @@ returns-2 c =
     record {
       is = (λ z. (b1 .is z, b2 .is z, b3 .is z))
           ∙ ap (λ o. tripleAt (a .file .now) (o + 3 * a .i)) (at-word .word .ensures .is)
-          ∙ found _ _ (0, 0, 0) (a .i) (at-if .before .triple-count .ensures .is) (at-if .if1 .left);
+          ∙ triple-found (a .file .now) (a .section) (a .i) (at-if .before .triple-count .ensures .is) (at-if .if1 .left);
       first = b1 .small;
       second = b2 .small;
       third = b3 .small;
