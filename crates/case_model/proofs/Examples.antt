@@ -98,8 +98,8 @@ laidOut o p q r l = o ∷ 0 ∷ 1 ∷ 0 ∷ p ∷ 0 ∷ 0 ∷ 0 ∷ q ∷ 0 ∷ 
 abbrev widest : List ℕ
 widest = laidOut 16 20 23 30 (7 ∷ 0 ∷ 0 ∷ 0 ∷ 0 ∷ 0 ∷ 0 ∷ 5 ∷ 0 ∷ 0 ∷ 0 ∷ 0 ∷ 0 ∷ 0 ∷ [])
 
--- padding between any two sections, an empty one too; and what is not padding: four bytes, a byte that is not 0, bytes before section 0 or after the last section,
--- a section that begins too early; and a head of three pairs
+-- padding between any two sections, an empty one too; and what is not padding: four bytes, a byte that is not 0, bytes before section 0 or after the last
+-- section, a section that begins too early; and a head of three pairs
 chains :
     (vetting (laidOut 16 17 17 21 (0 ∷ 5 ∷ 0 ∷ 0 ∷ 0 ∷ [])) 0 ≡ answers (record { states = 1; nodes = 1 }))
     × (vetting widest 0 ≡ answers (record { states = 1; nodes = 1 }))
