@@ -90,7 +90,7 @@ module _ (l : List (List ℕ)) where
   length-packed = simp (length-append, length-pairs, length-map)
 
   -- byte x of section k
-  pub packed-at : (k x : ℕ) → k < length l → x < length (getD l k []) → byteAt (packed l) (offset (packed l) k + x) ≡ getD (getD l k []) x 0
+  packed-at : (k x : ℕ) → k < length l → x < length (getD l k []) → byteAt (packed l) (offset (packed l) k + x) ≡ getD (getD l k []) x 0
   packed-at k x h b =
       let e : offset (packed l) k + x ≡ length (pairs (4 * length l) (map length l)) + (start 0 l k + x) =
       omega (arith, packed-offset k h, length-pairs (map length l) (4 * length l), length-map l length) in

@@ -111,7 +111,7 @@ module _ (f : List ℕ) where
         within standard f e 3 (omega arith),
       ))
 
-  pub repacked-aside : pairsHold standard f ≡ true → PaddingAside f (repacked f)
+  repacked-aside : pairsHold standard f ≡ true → PaddingAside f (repacked f)
   unfolding repacked
   repacked-aside e =
       let l : List (List ℕ) = listOf sections (section f) in

@@ -20,14 +20,16 @@ abbrev μ-loop : tie.MeasureT-loop
 μ-loop file from to count all₀ i₀ all i = count - i
 
 returns : tie.Need-returns Inv-loop μ-loop
-returns c = sym (padding-early _ _ _ (c .if1 .taken))
+returns c = let a = c .before .before .args in sym (padding-early (a .file .now) (a .from) (a .to) (omega arith))
 
 returns-2 : tie.Need-returns-2 Inv-loop μ-loop
-returns-2 c = sym (padding-long _ _ _ (c .before .if1 .left) (c .if2 .taken))
+returns-2 c =
+    let a = c .before .before .before .args in
+    sym (padding-long (a .file .now) (a .from) (a .to) (omega arith) (omega arith))
 
 loop-holds : tie.Need-loop-holds Inv-loop μ-loop
 unfolding forAll
-loop-holds c = (refl, omega arith, refl, c .before .if1 .left, c .if2 .left)
+loop-holds c = (refl, omega arith, refl, omega arith, omega arith)
 
 add-byte : tie.Need-add-byte Inv-loop μ-loop
 add-byte c = search needs
