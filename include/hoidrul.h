@@ -11,7 +11,7 @@
  * of its own. They may share a file that nobody writes.
  *
  * Stack. Every call fits in a thread with HOIDRUL_STACK bytes of stack. Threads of 18 KiB were enough in tests, and
- * threads of 17 KiB were not: judging took 13,256 bytes from its caller's frame, the other functions at most 5,680.
+ * threads of 17 KiB were not: judging took 13,256 bytes from its caller's frame, the other functions at most 5,696.
  *
  * Time. Judging can take hours: a binder takes up to n * 2^n rounds on n states, and nested binders of alternating
  * kinds multiply theirs. Only ending its thread or process stops a call. The other functions end within about a
@@ -96,11 +96,15 @@ uint64_t hoidrul_judge(const uint8_t *file, size_t len, uint16_t set, uint16_t *
 /* The three below write to `out`, an area of `room` bytes. Answer: how many bytes were written, from the first on;
  * those behind stay as they were. Refusal 13 if the area is shorter than the result. */
 
-/* Classes: one byte a state, the lowest state alike to it. Refusals: 1 to 7, 13. */
+/* Classes: one byte a state, the lowest state alike to it. States are alike if a bisimulation relates them, which compares
+ * only as far as the rule looks: the propositions, and the steps of the actions, in nodes that the root reaches, where a
+ * group counts with all its actions. Refusals: 1 to 7, 13. */
 uint64_t hoidrul_classes(const uint8_t *file, size_t len, uint8_t *out, size_t room);
 
 /* Merging states s and t, in either order: the packed file of the case in which the lower stands for both, also in the
- * list of start states. Refusals: 1 to 7, 8 if s or t is beyond the case, 10, 13. */
+ * list of start states. The lower keeps its label and its steps, and steps to the higher lead to it, also where the rule
+ * does not look; steps of the higher are dropped. Refusals: 1 to 7, 8 if s or t is beyond the case, 10 if they are one
+ * state or not alike, 13. */
 uint64_t hoidrul_merge(const uint8_t *file, size_t len, size_t s, size_t t, uint8_t *out, size_t room);
 
 /* Rewriting by a law, 1 to 9, at a node: the packed file of the case with that rule. Refusals: 1 to 7, 11 to 13. */

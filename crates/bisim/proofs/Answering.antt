@@ -10,11 +10,11 @@ use borrow.Author.Tests.{le-leb, lt-leb}
 use lib.Dec.{leb}
 use lib.ListN.{length, drop}
 use Rattle.flc.specs.Sets.{first}
-use Rattle.flc.specs.Bisimulation.{alike}
+use Rattle.flc.specs.Bisimulation.{bisimilar}
 use Rattle.case_model.specs.Limits.{standard}
 use Rattle.case_model.specs.Areas.{Laid}
 use Rattle.case_model.specs.Bytes.{listOf}
-use Rattle.case_model.specs.Case.{Case, read, table}
+use Rattle.case_model.specs.Case.{Case, read}
 use Rattle.case_model.specs.Rows.{sound, refused, refusals}
 use Rattle.case_model.specs.Replies.{answers, refuses, counted, written}
 use Rattle.case_model.specs.Merging.{lowestAlike, classing}
@@ -34,8 +34,8 @@ first-ext p q i (suc k) h = rw (h i (omega arith) (omega arith), first-ext p q (
 
 -- ---- the rows
 -- the lowest of each row
-lowest-alike : {c : Case} {g : Graph} {rows : List ℕ} → Drawn c g → Rows (g .states) rows (alike (tableOf g))
-    → listOf (length (c .labels)) (λ s. first (related rows s) 0 s) ≡ listOf (length (c .labels)) (lowestAlike (table c))
+lowest-alike : {c : Case} {g : Graph} {rows : List ℕ} → Drawn c g → Rows (g .states) rows (bisimilar (tableOf g))
+    → listOf (length (c .labels)) (λ s. first (related rows s) 0 s) ≡ listOf (length (c .labels)) (lowestAlike c)
 unfolding lowestAlike
 lowest-alike {c} d r = listOf-ext (length (c .labels)) _ _ (λ s i. first-ext _ _ 0 s (λ t _ j. rows-alike d r s t i (omega arith)))
 
@@ -58,7 +58,8 @@ unfolding classing
 classing-refused f room k p e = rw e
 
 -- an accepted case, of whose classes so many bytes are written
-module _ (f out : List ℕ) (ok : refusals standard f ≡ sound) {g : Graph} {rows : List ℕ} (d : Drawn (read f) g) (r : Rows (g .states) rows (alike (tableOf g)))
+module _ (f out : List ℕ) (ok : refusals standard f ≡ sound) {g : Graph} {rows : List ℕ} (d : Drawn (read f) g)
+    (r : Rows (g .states) rows (bisimilar (tableOf g)))
     {n count : ℕ} (states : n ≡ length (read f .labels)) (served : count ≡ cond (leb n (length out)) n 0)
     {v : List ℕ} (w : Laid out v 0 count (listOf count (λ s. first (related rows s) 0 s))) where
   -- the area after the call
@@ -72,7 +73,7 @@ module _ (f out : List ℕ) (ok : refusals standard f ≡ sound) {g : Graph} {ro
   classing-short h =
       let (l, z) = served-none n (length out) served h in
       let e : classing f (length out) ≡ refuses 13 0 =
-      rw (ok, length-listOf (length (read f .labels)) (lowestAlike (table (read f))), lt-leb (length (read f .labels)) (length out) (omega arith)) in
+      rw (ok, length-listOf (length (read f .labels)) (lowestAlike (read f)), lt-leb (length (read f .labels)) (length out) (omega arith)) in
       (rw e, rw e (rw z at front))
 
   pub classing-whole : n ≤ count → (answers n ≡ counted (classing f (length out))) × (v ≡ written (classing f (length out)) out)
@@ -80,7 +81,7 @@ module _ (f out : List ℕ) (ok : refusals standard f ≡ sound) {g : Graph} {ro
   classing-whole h =
       let (few, fits) = served-within n (length out) served in
       let q : count ≡ length (read f .labels) = omega arith in
-      let m = length-listOf (length (read f .labels)) (lowestAlike (table (read f))) in
-      let e : classing f (length out) ≡ answers (listOf (length (read f .labels)) (lowestAlike (table (read f)))) =
+      let m = length-listOf (length (read f .labels)) (lowestAlike (read f)) in
+      let e : classing f (length out) ≡ answers (listOf (length (read f .labels)) (lowestAlike (read f))) =
       rw (ok, m, le-leb (length (read f .labels)) (length out) (omega arith)) in
       (rw (e, m, states), rw (e, m, ← lowest-alike d r) (rw q at front))

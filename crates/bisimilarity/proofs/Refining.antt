@@ -1,5 +1,5 @@
 -- Refinement: one test by masks, what each round keeps, that every round but the last drops a pair, and what is left at the end.
--- No alike pair is dropped, and where nothing is dropped what is left is alike; the rows as numbers sum to less with every round.
+-- No bisimilar pair is dropped, and where nothing is dropped what is left is bisimilar; the rows as numbers sum to less with every round.
 use mathlib.Core.Bool.{Bool, true, false, not}
 use mathlib.Core.List.{List}
 use mathlib.Core.Path.{_≡_, refl, sym, ap, _∙_, subst}
@@ -11,11 +11,14 @@ use lib.Dec.{T, eqb, eqb→eq, ltb→lt}
 use lib.ListN.{length, getD}
 use Rattle.flc.specs.Sets.{both, implies, forAll, forSome, has, setOf}
 use Rattle.flc.specs.Formula.{Table, actions}
-use Rattle.flc.specs.Bisimulation.{met, alike}
-use Rattle.flc.proofs.Tests.{bool-ext, both-left, both-right, both-mk, both-rises, implies-use, implies-mk, forAll-use, forAll-rises, forSome-rises}
+use Rattle.flc.specs.Vocabulary.{reduct}
+use Rattle.flc.specs.Bisimulation.{met, bisimilar, alike}
+use Rattle.flc.proofs.Tests.{bool-ext, both-left, both-right, both-mk, both-rises, implies-use, implies-mk, forAll-use, forAll-mk, forAll-rises, forSome-rises}
 use Rattle.flc.proofs.Masks.{has-setOf, setOf-lt, setOf-ext, setOf-has}
-use Rattle.flc.proofs.Alikeness.{Acts, Within, matched, refine, refine-keeps, refine-stands, alike-bisim}
+use Rattle.flc.proofs.Bisimilarity.{Acts, Within, matched, refine, refine-keeps, refine-stands, bisimilar-bisim}
 use Rattle.case_model.specs.Case.{Case, table}
+use Rattle.case_model.specs.Looking.{looked}
+use Rattle.case_model.proofs.Tests.{is-true}
 use Rattle.bisimilarity.specs.Graphs.{tableOf, Drawn, After}
 use Rattle.bisimilarity.specs.Relations.{related, Rows, sameRows, metBy, kept, sameLabel}
 use Rattle.bisimilarity.specs.declared.graph.Graph.{Graph}
@@ -30,8 +33,13 @@ met-masks g rows s t a x y A B =
     meeting (g .states) y (getD rows u 0) (B .small) ∙ ap (forSome (g .states)) (λ i v. both (B .is v i) (has (getD rows u 0) v)) in
     ap (forAll (g .states)) (λ i u. implies (A .is u i) (meets u i))
 
+-- by an action that is not looked at there is no step to be met
+pub unlooked : (g : Graph) (R : ℕ → ℕ → Bool) (s t a : ℕ) → has (g .acts) a ≡ false → true ≡ metBy (tableOf g) R s t a
+unfolding metBy both implies
+unlooked g R s t a e = sym (is-true _ (forAll-mk (g .states) _ (λ s′ i. rw e tt)))
+
 acts : (g : Graph) → Acts (tableOf g)
-acts g s a t u = ltb→lt a actions (both-left _ _ u)
+acts g s a t u = ltb→lt a actions (both-left _ _ (both-right _ _ u))
 
 -- ---- what each round keeps
 -- a larger relation meets what a smaller one does
@@ -41,11 +49,11 @@ met-rises L R Q h s t =
     forAll-rises actions _ _ (λ a _. forAll-rises (L .n) _ _ (λ s′ i u. implies-mk _ _ (λ e.
     forSome-rises (L .n) _ _ (λ t′ j. both-rises _ _ _ _ (λ z. z) (h s′ t′ i j)) (implies-use _ _ u e))))
 
--- a symmetric relation of states with equal labels, with every alike pair
+-- a symmetric relation of states with equal labels, with every bisimilar pair
 pub record Coarse (L : Table) (R : ℕ → ℕ → Bool) : Type 0 where
   pub symm : Within L R (λ s t. R t s)
   pub labels : Within L R (sameLabel L)
-  pub keeps : Within L (alike L) R
+  pub keeps : Within L (bisimilar L) R
 
 -- of such a relation the pairs that are kept are those that refinement leaves
 module _ (L : Table) (R : ℕ → ℕ → Bool) (C : Coarse L R) where
@@ -75,7 +83,7 @@ unfolding sameLabel
 start-coarse L A = record {
   symm = λ s t i j u. subst T (sym (eq-eqb (L .label t) (L .label s) (sym (eqb→eq (L .label s) (L .label t) u)))) tt;
   labels = λ s t i j u. u;
-  keeps = λ s t i j u. subst T (sym (eq-eqb (L .label s) (L .label t) (alike-bisim L A s t i j u .labels))) tt;
+  keeps = λ s t i j u. subst T (sym (eq-eqb (L .label s) (L .label t) (bisimilar-bisim L A s t i j u .labels))) tt;
 }
 
 -- the states that a row shows
@@ -137,7 +145,7 @@ module _ (g : Graph) (rows next : List ℕ) (r : Round g rows) (N : Rows (g .sta
       (subst (λ x. x ≤ setOf (g .states) (has (getD rows s 0))) (sym (N .row s i)) (setOf-le (g .states) _ _ (λ t j u. both-left _ _ u)))) e
 
   -- one that changes nothing is the last
-  pub round-ends : sameRows (g .states) rows next ≡ true → Rows (g .states) rows (alike (tableOf g))
+  pub round-ends : sameRows (g .states) rows next ≡ true → Rows (g .states) rows (bisimilar (tableOf g))
   unfolding related
   round-ends e = record {
     row = λ s i.
@@ -148,14 +156,14 @@ module _ (g : Graph) (rows next : List ℕ) (r : Round g rows) (N : Rows (g .sta
       stays : (s t : ℕ) → s < g .states → t < g .states → related rows s t ≡ kept (tableOf g) (related rows) s t
       stays s t i j = ap (λ x. has x t) (eqb→eq _ _ (forAll-use (g .states) _ (subst T (sym e) tt) s i)) ∙ rows-related N s t i j
 
-      stands : Within (tableOf g) (related rows) (alike (tableOf g))
+      stands : Within (tableOf g) (related rows) (bisimilar (tableOf g))
       stands = refine-stands (tableOf g) (acts g) (related rows) (λ s t i j u.
           kept-refine (tableOf g) (related rows) (r .coarse) s t i j (subst T (stays s t i j) u))
 
 -- the rows that are left of a case's graph
-pub rows-alike : {c : Case} {g : Graph} {rows : List ℕ} → Drawn c g → Rows (g .states) rows (alike (tableOf g))
-    → (s t : ℕ) → s < length (c .labels) → t < length (c .labels) → related rows s t ≡ alike (table c) s t
-unfolding table
+pub rows-alike : {c : Case} {g : Graph} {rows : List ℕ} → Drawn c g → Rows (g .states) rows (bisimilar (tableOf g))
+    → (s t : ℕ) → s < length (c .labels) → t < length (c .labels) → related rows s t ≡ alike (looked c) (table c) s t
+unfolding alike reduct table
 rows-alike d r s t i j =
     let n = ap (λ (L : Table). L .n) (d .is) in
-    rows-related r s t (omega (arith, n)) (omega (arith, n)) ∙ ap (λ (L : Table). alike L s t) (d .is)
+    rows-related r s t (omega (arith, n)) (omega (arith, n)) ∙ ap (λ (L : Table). bisimilar L s t) (d .is)

@@ -1,19 +1,21 @@
--- The state table that the code's graph holds.
+-- The state table that the code's graph holds: of a case, what its rule looks at.
 use Prim.Native.Nat.{ℕ, _+_, _*_, _^_, _≤_, _<_}
 use mathlib.Core.Path.{_≡_}
 use lib.Dec.{ltb}
 use lib.ListN.{getD}
 use Rattle.flc.specs.Sets.{both, has}
 use Rattle.flc.specs.Formula.{Table, actions}
+use Rattle.flc.specs.Vocabulary.{reduct}
 use Rattle.case_model.specs.Case.{Case, table}
 use Rattle.case_model.specs.Limits.{mostStates}
+use Rattle.case_model.specs.Looking.{looked}
 use Rattle.bisimilarity.specs.declared.graph.Graph.{Graph}
 
 abbrev pub tableOf : Graph → Table
 tableOf g = record {
   n = g .states;
   label = λ s. getD (g .labels) s 0;
-  step = λ s a t. both (ltb a actions) (has (getD (g .successors) (8 * s + a) 0) t);
+  step = λ s a t. both (has (g .acts) a) (both (ltb a actions) (has (getD (g .successors) (8 * s + a) 0) t));
 }
 
 -- at most 16 states, and no step to another number
@@ -24,7 +26,7 @@ pub record Sized (g : Graph) : Type 0 where
 -- the graph of a case
 pub record Drawn (c : Case) (g : Graph) : Type 0 where
   pub sized : Sized g
-  pub is : tableOf g ≡ table c
+  pub is : tableOf g ≡ reduct (looked c) (table c)
 
 -- x is the set of the states after a step of s by a
 pub record After (g : Graph) (s a x : ℕ) : Type 0 where

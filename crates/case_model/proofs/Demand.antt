@@ -20,6 +20,7 @@ use Rattle.case_model.specs.Rows.{Found, sound, refused, _orElse_, unles
 use Rattle.case_model.specs.Limits.{mostNodes, standard}
 use Rattle.case_model.specs.Replies.{Reply, answers, refuses, replied, row13}
 use Rattle.case_model.specs.Judging.{verdict, row9}
+use Rattle.case_model.specs.Looking.{looked}
 use Rattle.case_model.specs.Merging.{moved, merge, row10, merging}
 use Rattle.case_model.specs.Rewriting.{Change, nothing, swap, change, isThere, rewrite, rewriting}
 use Rattle.case_model.specs.Book.{Edit, merges, rewrites, Book, begun, reply, restood, entered, turn, book}
@@ -82,7 +83,7 @@ module _ (f : List ℕ) (ok : refusals standard f ≡ sound) where
 
   -- ---- an accepted merge
   -- of k, the lower, and r
-  merge-stands : (k r : ℕ) → k < r → r < length (c .labels) → T (alike (table c) k r) → Stands f (write (merge c k r)) (moved k r)
+  merge-stands : (k r : ℕ) → k < r → r < length (c .labels) → T (alike (looked c) (table c) k r) → Stands f (write (merge c k r)) (moved k r)
   unfolding satisfied verdict
   merge-stands k r kr rn a =
       let within = moved-in valid k r kr rn in
@@ -100,10 +101,10 @@ module _ (f : List ℕ) (ok : refusals standard f ≡ sound) where
       let i : s < length (c .labels) = ltb-true _ _ (search rows depth 10) in
       let j : t < length (c .labels) = ltb-true _ _ (search rows depth 10) in
       let n : s ≡ t → ⊥ = eqb-false s t (not-true (eqb s t) (search rows depth 10)) in
-      let a : alike (table c) s t ≡ true = search rows depth 10 in
+      let a : alike (looked c) (table c) s t ≡ true = search rows depth 10 in
       subst (λ z. Stands f z (moved (min s t) (max s t))) q (go i j n a)
     where
-      go : s < length (c .labels) → t < length (c .labels) → (s ≡ t → ⊥) → alike (table c) s t ≡ true
+      go : s < length (c .labels) → t < length (c .labels) → (s ≡ t → ⊥) → alike (looked c) (table c) s t ≡ true
           → Stands f (write (merge c (min s t) (max s t))) (moved (min s t) (max s t))
       go i j n a = elim (decLt s t) [
         | yes h ↦

@@ -8,16 +8,19 @@ use Rattle.flc.specs.Sets.{both, either, implies, forAll, forSome, first, has}
 use Rattle.flc.specs.Functions.{forAllFun, forSomeFun}
 use Rattle.flc.specs.Formula.{free}
 use Rattle.flc.specs.Nodes.{lower, formulaAt}
-use Rattle.flc.specs.Bisimulation.{met, bisimulation, alike}
+use Rattle.flc.specs.Vocabulary.{vocabulary, reduct}
+use Rattle.flc.specs.Bisimulation.{met, matching, bisimilar, alike}
 use Rattle.case_model.specs.Bytes.{listOf, padding, chained, pairsHold, section, packed}
 use Rattle.case_model.specs.Case.{flat, write, listed, table, nodeAt, rule}
 use Rattle.case_model.specs.Kinds.{Triple, kinds, kindAt}
 use Rattle.case_model.specs.Rows.{lowest, rootClosed, refusals}
 use Rattle.case_model.specs.Replies.{answers, refuses}
 use Rattle.case_model.proofs.Examples.{startingAt, caseOf, nodes, F}
+use Rattle.case_model.specs.Looking.{looked}
 use Rattle.case_model.specs.Merging.{moved, movedSteps, selected, inOrder, isIn, merge, merging}
 use Rattle.case_model.specs.Rewriting.{change, renamed, rewrite, rewriting}
 use Rattle.case_model.specs.Book.{Edit, begun, book}
+use Rattle.case_model.specs.Run.{replies}
 
 -- one state without steps, and a rule
 abbrev of : List Triple → ℕ → List ℕ
@@ -74,7 +77,35 @@ merges :
     × (merging F 1 1 55 ≡ refuses 10 0)
     × (merging (startingAt (0 ∷ 1 ∷ []) (5 ∷ 5 ∷ []) ((0, 3, 1) ∷ (1, 3, 1) ∷ []) ((5, 0, 0) ∷ []) 0) 1 0 99
     ≡ answers (startingAt (0 ∷ []) (5 ∷ []) ((0, 3, 0) ∷ []) ((5, 0, 0) ∷ []) 0))
-unfolding merging merge moved movedSteps selected inOrder isIn alike forSomeFun forAllFun bisimulation met implies has table listed
+unfolding merging merge moved movedSteps selected inOrder isIn
+    alike looked vocabulary reduct bisimilar matching met forSomeFun forAllFun implies has table listed
     write packed refusals pairsHold chained padding section
     listOf lowest first forAll forSome both either rootClosed rule formulaAt lower nodeAt kindAt kinds free
 merges = (refl, refl, refl, refl)
+
+-- two states without common steps, of which state 0 alone has proposition 7, and a rule
+abbrev lamp : List Triple → List Triple → ℕ → List ℕ
+lamp s n r = caseOf (129 ∷ 1 ∷ []) s n r
+
+-- alike as far as the rule looks: neither a proposition nor an action is compared that stands in no node, or only in one that the root does not reach. The
+-- kept label is whole, and steps of every action are moved or gone; what stands in a complement or in a group is compared, as its highest action is
+looks :
+    (merging (lamp ((0, 7, 1) ∷ (1, 6, 1) ∷ []) ((2, 0, 0) ∷ (2, 7, 0) ∷ (14, 192, 0) ∷ []) 0) 0 1 99
+    ≡ answers (caseOf (129 ∷ []) ((0, 7, 0) ∷ []) ((2, 0, 0) ∷ (2, 7, 0) ∷ (14, 192, 0) ∷ []) 0))
+    × (merging (lamp [] ((3, 7, 0) ∷ []) 0) 0 1 99 ≡ refuses 10 0)
+    × (merging (lamp ((0, 7, 0) ∷ []) ((13, 129, 0) ∷ []) 0) 0 1 99 ≡ refuses 10 0)
+unfolding merging merge moved movedSteps selected inOrder isIn
+    alike looked vocabulary reduct bisimilar matching met forSomeFun forAllFun implies has table listed
+    write packed refusals pairsHold chained padding section
+    listOf lowest first forAll forSome both either rootClosed rule formulaAt lower nodeAt kindAt kinds free
+looks = (refl, refl, refl)
+
+-- each merge is judged by the file that it gets: law 3 makes of p0;¬p7 the rule p0, which does not look at proposition 7 any more
+widens :
+    replies (begun (lamp [] ((2, 0, 0) ∷ (3, 7, 0) ∷ (10, 0, 1) ∷ []) 2)) (Edit.merges 0 1 99 ∷ Edit.rewrites 3 2 99 ∷ Edit.merges 0 1 99 ∷ [])
+    ≡ refuses 10 0 ∷ answers 28 ∷ answers 27 ∷ []
+unfolding replies rewriting change rewrite merging merge moved movedSteps selected inOrder isIn
+    alike looked vocabulary reduct bisimilar matching met forSomeFun forAllFun implies has table listed
+    write packed refusals pairsHold chained padding section
+    listOf lowest first forAll forSome both either rootClosed rule formulaAt lower nodeAt kindAt kinds free
+widens = refl

@@ -16,6 +16,7 @@ pub mod Selected
 pub mod Starts
 pub mod Steps
 pub mod Nodes
+pub mod Looking
 pub mod Judged
 pub mod Accepting
 pub mod Written

@@ -8,19 +8,26 @@ use mathlib.Core.Path.{_≡_, refl, sym, ap, _∙_, subst}
 use native.Mathlib.Decide.{decLt, ℕ-discrete}
 use native.Mathlib.Nat.{zero-div}
 use native.Mathlib.Omega.{arith}
+use lib.Bits.{bitAnd}
 use lib.Dec.{T}
 use lib.ListN.{length, getD, take, drop, length-append, length-drop, List·getD-append}
 use lib.Seq.{getD-append-add, getD-take, getD-drop, length-take-le}
 use Rattle.flc.specs.Sets.{has, setOf}
-use Rattle.flc.specs.Formula.{mean, none}
+use Rattle.flc.specs.Formula.{Table, mean, none}
+use Rattle.flc.specs.Vocabulary.{Vocabulary, Included, reduct}
 use Rattle.flc.specs.Bisimulation.{alike}
+use Rattle.flc.specs.Likeness.{UnionOfClasses, Likeness}
+use Rattle.flc.proofs.Tests.{both-left, both-right, both-mk}
 use Rattle.flc.proofs.Masks.{has-setOf, setOf-lt, setOf-ext}
 use Rattle.flc.proofs.Meanings.{none-good}
 use Rattle.flc.proofs.Invariance.{Matched, Bisim, mean-kept}
-use Rattle.flc.proofs.Alikeness.{Acts, Holds, alike-bisim, alike-refl, alike-sym, alike-trans}
+use Rattle.flc.proofs.Vocabularies.{mean-reduct}
+use Rattle.flc.proofs.Bisimilarity.{Acts, Holds}
+use Rattle.flc.proofs.Likeness.{alike-bisim, likeness}
 use Rattle.case_model.specs.Limits.{standard}
 use Rattle.case_model.specs.Case.{Case, write, listed, table, nodeAt, rule}
 use Rattle.case_model.specs.Rows.{sound, stepWrong, rootClosed, refusals}
+use Rattle.case_model.specs.Looking.{looked}
 use Rattle.case_model.specs.Merging.{moved, movedSteps, merge}
 use Rattle.case_model.specs.Run.{allStates}
 use Rattle.case_model.specs.Valid.{ValidTable, Valid}
@@ -31,10 +38,6 @@ use Rattle.case_model.proofs.MovedStates.{stays, stays-low, stays-high,
 use Rattle.case_model.proofs.MovedStates.{moved-at, moved-lt, movedSteps-use, movedSteps-mk}
 use Rattle.case_model.proofs.MergedStarts.{new-starts-right}
 
--- alike states are in the set x or neither is
-abbrev pub UnionOfClasses : Case → ℕ → Type 0
-UnionOfClasses c x = (s t : ℕ) → s < length (c .labels) → t < length (c .labels) → T (alike (table c) s t) → has x s ≡ has x t
-
 -- the states of the new case that stay from the set x
 unfoldable pub carried : Case → ℕ → ℕ → ℕ
 carried c r x = setOf (length (c .labels) - 1) (λ u. has x (stays r u))
@@ -43,6 +46,10 @@ carried c r x = setOf (length (c .labels) - 1) (λ u. has x (stays r u))
 pub valid-acts : {most : ℕ} {c : Case} → ValidTable most c → Acts (table c)
 unfolding table
 valid-acts valid s a t h = listed-in valid s a t h .action
+
+-- what is known of its alike states
+pub valid-likeness : {c : Case} → Valid standard c → Likeness (looked c) (table c)
+valid-likeness {c} valid = likeness (looked c) (table c) (valid-acts (valid .table))
 
 -- no state is in the empty set
 none-in : (s t : ℕ) → has 0 s ≡ has 0 t
@@ -127,49 +134,59 @@ module _ {c : Case} (valid : Valid standard c) (k r : ℕ) (kr : k < r) (rn : r 
   merge-accepted = valid-accepted (merge c k r) merge-valid
 
   -- ---- alike states
-  module _ (kr-alike : T (alike (table c) k r)) where
+  abbrev W : Vocabulary
+  W = looked c
+
+  module _ (kr-alike : T (alike W (table c) k r)) where
     stays-in : (u : ℕ) → u < length (merge c k r .labels) → stays r u < length (c .labels)
     stays-in u j = stays-lt r u _ rn (rw merge-states at j)
 
     -- a state, and one of the new case that stays alike to it
     abbrev Stands : ℕ → ℕ → Type 0
-    Stands s u = T (alike (table c) s (stays r u))
+    Stands s u = T (alike W (table c) s (stays r u))
 
     -- what is alike to a state is alike to the state that stands for it
-    stood : (s t : ℕ) → s < length (c .labels) → t < length (c .labels) → T (alike (table c) s t) → Stands s (moved k r t)
+    stood : (s t : ℕ) → s < length (c .labels) → t < length (c .labels) → T (alike W (table c) s t) → Stands s (moved k r t)
     unfolding table
     stood s t i j a = elim (ℕ-discrete t r) [
       | yes e ↦ rw (e, moved-at k r, stays-low r k kr)
-          (alike-trans (table c) (valid-acts (valid .table)) s r k i rn (omega arith) (rw e at a)
-          (alike-sym (table c) (valid-acts (valid .table)) k r (omega arith) rn kr-alike))
+          (valid-likeness valid .transitive s r k i rn (omega arith) (rw e at a)
+          (valid-likeness valid .symmetric k r (omega arith) rn kr-alike))
       | no n ↦ rw (stays-moved k r t n) a
     ]
 
     stood-self : (s : ℕ) → s < length (c .labels) → Stands s (moved k r s)
     unfolding table
-    stood-self s i = stood s s i i (alike-refl (table c) s i)
+    stood-self s i = stood s s i i (valid-likeness valid .reflexive s i)
 
-    stands-bisim : Bisim (table c) (table (merge c k r)) Stands
-    unfolding table
+    -- what the rule looks at, of the case and of the new one
+    abbrev L : Table
+    L = reduct W (table c)
+
+    abbrev M : Table
+    M = reduct W (table (merge c k r))
+
+    stands-bisim : Bisim L M Stands
+    unfolding table reduct
     stands-bisim s u i j h =
-        let P : Matched (table c) (table c) (Holds (alike (table c))) s (stays r u) =
-        alike-bisim (table c) (valid-acts (valid .table)) s (stays r u) i (stays-in u j) h in
+        let P : Matched L L (Holds (alike W (table c))) s (stays r u) =
+        alike-bisim W (table c) (valid-acts (valid .table)) s (stays r u) i (stays-in u j) h in
         record {
-          labels = P .labels ∙ sym (merge-label u);
+          labels = P .labels ∙ ap (λ x. bitAnd x (W .props)) (sym (merge-label u));
           forth = λ a s′ i′ e.
               let (t, l, v, w) = P .forth a s′ i′ e in
-              (moved k r t, moved-in t l, merge-step u a (moved k r t) .1 (t, refl, v), stood s′ t i′ l w);
+              (moved k r t, moved-in t l, both-mk _ _ (both-left _ _ v) (merge-step u a (moved k r t) .1 (t, refl, both-right _ _ v)), stood s′ t i′ l w);
           back = λ a w j′ e.
-              let (t, m, v) = merge-step u a w .0 e in
+              let (t, m, v) = merge-step u a w .0 (both-right _ _ e) in
               let l : t < length (c .labels) = listed-in (valid .table) (stays r u) a t v .to in
-              let (s′, i′, x, y) = P .back a t l v in
+              let (s′, i′, x, y) = P .back a t l (both-mk _ _ (both-left _ _ e) v) in
               (s′, i′, x, subst (Stands s′) m (stood s′ t i′ l y));
         }
 
     -- the carried set has the state that stands for s just if the set has s
-    module _ (x : ℕ) (whole : UnionOfClasses c x) where
+    module _ (x : ℕ) (whole : UnionOfClasses W (table c) x) where
       carried-stands : (s u : ℕ) → s < length (c .labels) → u < length (merge c k r .labels) → Stands s u → has x s ≡ has (carried c r x) u
-      unfolding carried
+      unfolding carried table
       carried-stands s u i j h =
           whole s (stays r u) i (stays-in u j) h ∙ sym (has-setOf (length (c .labels) - 1) _ u (rw merge-states at j))
 
@@ -179,12 +196,15 @@ module _ {c : Case} (valid : Valid standard c) (k r : ℕ) (kr : k < r) (rn : r 
       -- and the new rule's answer at it has the state that stands for s just if the old one at the set has s
       pub merge-kept : x < 2 ^ length (c .labels) → (s : ℕ) → s < length (c .labels)
           → has (mean (table c) (rule c) none x) s ≡ has (mean (table (merge c k r)) (rule (merge c k r)) none (carried c r x)) (moved k r s)
-      unfolding table carried
-      merge-kept small s i = rw merge-rule
-          (mean-kept (table c) (table (merge c k r)) Stands stands-bisim (rule c) none none (none-good (table c .n)) (none-good (table (merge c k r) .n))
+      unfolding table carried reduct looked
+      merge-kept small s i = rw (merge-rule, ← mean-reduct W (table c) (rule c) all none, ← mean-reduct W (table (merge c k r)) (rule c) all none)
+          (mean-kept L M Stands stands-bisim (rule c) none none (none-good (L .n)) (none-good (M .n))
           (λ v x y i j c s t k l z. unfold none in none-in s t)
           x (carried c r x) small (rw merge-states (setOf-lt (length (c .labels) - 1) _)) carried-stands
           s (moved k r s) i (moved-in s i) (stood-self s i))
+        where
+          all : Included W W
+          all = record { props = λ i u. u; acts = λ a u. u }
 
     -- the set of all states is such a union, and is carried to the set of all states
     pub carried-all : carried c r (allStates c) ≡ allStates (merge c k r)
@@ -194,6 +214,7 @@ module _ {c : Case} (valid : Valid standard c) (k r : ℕ) (kr : k < r) (rn : r 
     pub merge-holds : (s : ℕ) → s < length (c .labels)
         → has (mean (table c) (rule c) none (allStates c)) s
         ≡ has (mean (table (merge c k r)) (rule (merge c k r)) none (allStates (merge c k r))) (moved k r s)
+    unfolding table
     merge-holds s i =
         merge-kept (allStates c) (λ s t i j a. has-setOf (length (c .labels)) _ s i ∙ sym (has-setOf (length (c .labels)) _ t j))
         (setOf-lt (length (c .labels)) _) s i

@@ -13,6 +13,8 @@ use Rattle.flc.proofs.Tests.{both-left, both-right, both-mk, either-use, either
 use Rattle.case_model.specs.Case.{listed}
 use Rattle.case_model.specs.Kinds.{Triple}
 use Rattle.case_model.specs.Merging.{moved, movedSteps}
+-- checked first: a slip in merging is told as a false equation there
+use Rattle.case_model.proofs.EditExamples as examples
 
 -- the old number of the new state u
 unfoldable pub stays : ℕ → ℕ → ℕ

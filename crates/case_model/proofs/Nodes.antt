@@ -8,7 +8,7 @@ use native.Mathlib.Decide.{decLt}
 use native.Mathlib.Omega.{arith}
 use borrow.Author.Tests.{eqb-true, ltb-true, eq-eqb}
 use lib.Dec.{T, eqb, ltb, eqb→eq, T-not}
-use lib.ListN.{length}
+use lib.ListN.{length, List·getD-eq-default}
 use Rattle.flc.specs.Sets.{forSome}
 use Rattle.flc.specs.Formula.{Atom, Op, Formula, atom, var, free}
 use Rattle.flc.specs.Nodes.{Node, leaf, two, bind, tree, lower, formulaAt, Names}
@@ -16,6 +16,7 @@ use Rattle.flc.proofs.Tests.{either-use, both-right, forAll-use, forSome-mk}
 use Rattle.flc.proofs.Unfolding.{Lower}
 use Rattle.case_model.specs.Case.{Case, at, nodeAt, rule}
 use Rattle.case_model.specs.Kinds.{Triple, Kind, fits, kinds, kindAt, nodeOf, nodeHolds, isBinder}
+use Rattle.case_model.specs.Reach.{Reached, the-root, named}
 use Rattle.case_model.specs.Rows.{binds, rootClosed}
 use Rattle.case_model.specs.Limits.{variables}
 use Rattle.case_model.proofs.Tests.{is-true, and-l, and-r}
@@ -73,6 +74,19 @@ module _ {c : Case} (valid : ValidRule c) where
 
   pub node-lower : (j : ℕ) → j < length (c .nodes) → Lower (nodeAt c) j
   node-lower j h = fits-names (nodeAt c j) (node-fits j h)
+
+  -- a node past the end names nothing
+  pub all-lower : (j : ℕ) → Lower (nodeAt c) j
+  unfolding nodeAt kindAt kinds
+  all-lower j = elim (decLt j (length (c .nodes))) [
+    | yes h ↦ node-lower j h
+    | no h ↦ λ i e. absurd (subst (λ t. Names (kindAt (t .0) .node (t .1) (t .2)) i) (List·getD-eq-default (c .nodes) (0, 0, 0) {n = j} (omega arith)) e)
+  ]
+
+  -- so what is reached is not above the root
+  pub reached-low : (j : ℕ) → Reached (nodeAt c) (c .root) j → j < suc (c .root)
+  reached-low _ the-root = omega arith
+  reached-low j (named {i} r e) = omega (arith, all-lower i j e, reached-low i r)
 
   -- no two binders of one variable
   apart : (i j v : ℕ) → i < j → j < length (c .nodes) → binds (at (c .nodes) i) v ≡ true → binds (at (c .nodes) j) v ≡ true → ⊥

@@ -11,7 +11,7 @@ use lib.Dec.{eqb, leb, ltb}
 use lib.ListN.{length, length-append}
 use Rattle.case_model.specs.Limits.{sections, mostNodes, standard}
 use Rattle.case_model.specs.Bytes.{listOf, byteAt, size, pairsHold, section, packed}
-use Rattle.case_model.specs.Case.{Case, read, tripleAt, triples, write, table}
+use Rattle.case_model.specs.Case.{Case, read, tripleAt, triples, write}
 use Rattle.case_model.specs.Rows.{Found, sound, refused, _orElse_, unless, lowest, stepWrong, startsRise, row2, row5, row6, row7, row8, refusals}
 use Rattle.case_model.specs.Replies.{Reply, answers, refuses, replied, counts, opened, vetting, opening, row13, counted}
 use Rattle.case_model.specs.Judging.{verdict, row9, judging}
@@ -83,7 +83,7 @@ module _ {f g : List ℕ} (p : PaddingAside f g) where
     opened = opened-same;
     judged = λ x words z. let c : Case = read-same z in
         replied (refusals-same z orElse row8 x (2 ^ length (c .labels)) orElse row9 c words) (verdict c x);
-    classed = λ room z. let new : List ℕ = listOf (length (read-same z .labels)) (lowestAlike (table (read-same z))) in
+    classed = λ room z. let new : List ℕ = listOf (length (read-same z .labels)) (lowestAlike (read-same z)) in
         replied (refusals-same z orElse row13 new room) new;
     merged = λ s t room z. let c : Case = read-same z in
         let n : ℕ = length (c .labels) in

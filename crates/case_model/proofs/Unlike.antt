@@ -11,27 +11,28 @@ use borrow.Author.Tests.{ltb-true, lt-ltb, eq-eqb, ne-eqb}
 use lib.Dec.{T, eqb, leb, ltb}
 use lib.ListN.{length}
 use Rattle.flc.specs.Formula.{Table}
+use Rattle.flc.specs.Vocabulary.{Vocabulary}
 use Rattle.flc.specs.Bisimulation.{bisimulation, alike}
 use Rattle.flc.proofs.Tests.{bool-ext}
-use Rattle.flc.proofs.Alikeness.{bisimulation-use, bisimulation-mk, alike-use, alike-mk, alike-sym}
 use Rattle.case_model.specs.Limits.{standard}
 use Rattle.case_model.specs.Case.{Case, read, write, table}
 use Rattle.case_model.specs.Rows.{Found, sound, refused, _orElse_, unless, refusals}
 use Rattle.case_model.specs.Replies.{refuses, replied, row13}
+use Rattle.case_model.specs.Looking.{looked}
 use Rattle.case_model.specs.Merging.{merge, merging}
 use Rattle.case_model.proofs.Valid.{accepted-valid}
 use Rattle.case_model.specs.Valid.{Valid}
-use Rattle.case_model.proofs.Merged.{valid-acts}
+use Rattle.case_model.proofs.Merged.{valid-likeness}
 
 -- ---- either order
 -- equality and being alike, turned round
 eqb-turned : (s t : ℕ) → eqb s t ≡ eqb t s
 eqb-turned s t = elim (ℕ-discrete s t) [ yes e ↦ rw (eq-eqb s t e, eq-eqb t s (sym e)) | no n ↦ rw (ne-eqb s t n, ne-eqb t s (λ e. n (sym e))) ]
 
-pub alike-turned : {c : Case} → Valid standard c → (s t : ℕ) → s < length (c .labels) → t < length (c .labels) → alike (table c) s t ≡ alike (table c) t s
+pub alike-turned : {c : Case} → Valid standard c → (s t : ℕ) → s < length (c .labels) → t < length (c .labels)
+    → alike (looked c) (table c) s t ≡ alike (looked c) (table c) t s
 unfolding table
-alike-turned {c} valid s t i j =
-    bool-ext _ _ (alike-sym (table c) (valid-acts (valid .table)) s t i j) (alike-sym (table c) (valid-acts (valid .table)) t s j i)
+alike-turned {c} valid s t i j = bool-ext _ _ (valid-likeness valid .symmetric s t i j) (valid-likeness valid .symmetric t s j i)
 
 -- rows 8 and 10 with the states turned round
 turned : (x : Found) (a b d e : Bool) (y : Found) → (x ≡ sound → a ≡ true → b ≡ true → d ≡ e)
@@ -50,7 +51,7 @@ merge-either f s t room =
     let new : List ℕ = write (merge (read f) (min t s) (max t s)) in
     let p : min s t ≡ min t s = omega arith in
     let q : max s t ≡ max t s = omega arith in
-    let d : ℕ → ℕ → Bool = λ s t. not (eqb s t) && alike (table (read f)) s t in
+    let d : ℕ → ℕ → Bool = λ s t. not (eqb s t) && alike (looked (read f)) (table (read f)) s t in
     rw (p, q) (ap (λ z. replied z new) (turned (refusals standard f) (ltb s n) (ltb t n) (d s t) (d t s) (row13 new room) (λ ok i j.
     rw (eqb-turned s t, alike-turned (accepted-valid standard f ok) s t (ltb-true s n i) (ltb-true t n j)))))
 
@@ -59,22 +60,25 @@ module _ (f : List ℕ) (ok : refusals standard f ≡ sound) (s t : ℕ) (i : s 
   abbrev L : Table
   L = table (read f)
 
-  -- alike states are related by some bisimulation, and others by none
-  related : T (alike L s t) → ((R : ℕ → ℕ → Bool) → T (bisimulation L R) → T (R s t) → ⊥) → ⊥
-  related a h = let (R, B, r) = alike-use L (valid-acts (accepted-valid standard f ok .table)) s t a in h R (bisimulation-mk L R B) r
+  abbrev W : Vocabulary
+  W = looked (read f)
 
-  unrelated : (T (alike L s t) → ⊥) → (R : ℕ → ℕ → Bool) → T (bisimulation L R) → T (R s t) → ⊥
+  -- alike states are related by some bisimulation, and others by none
+  related : T (alike W L s t) → ((R : ℕ → ℕ → Bool) → T (bisimulation W L R) → T (R s t) → ⊥) → ⊥
+  related a h = h (alike W L) (valid-likeness (accepted-valid standard f ok) .bisimulates) a
+
+  unrelated : (T (alike W L s t) → ⊥) → (R : ℕ → ℕ → Bool) → T (bisimulation W L R) → T (R s t) → ⊥
   unfolding table
-  unrelated n R B r = n (alike-mk L R (bisimulation-use L (valid-acts (accepted-valid standard f ok .table)) R B) s t i j r)
+  unrelated n R B r = n (valid-likeness (accepted-valid standard f ok) .largest R B s t i j r)
 
   -- clause 4.7
   pub unlike-exactly : (room : ℕ)
-      → (merging f s t room ≡ refuses 10 0) ↔ ((R : ℕ → ℕ → Bool) → T (bisimulation (table (read f)) R) → T (R s t) → ⊥)
+      → (merging f s t room ≡ refuses 10 0) ↔ ((R : ℕ → ℕ → Bool) → T (bisimulation (looked (read f)) (table (read f)) R) → T (R s t) → ⊥)
   unfolding merging
   unlike-exactly room =
       let new : List ℕ = write (merge (read f) (min s t) (max s t)) in
       rw (ok, lt-ltb s (length (read f .labels)) i, lt-ltb t (length (read f .labels)) j, ne-eqb s t ne)
-      (go (alike L s t) (leb (length new) room) new unrelated related)
+      (go (alike W L s t) (leb (length new) room) new unrelated related)
     where
       go : (a b : Bool) {N : Type 0} (new : List ℕ) → ((T a → ⊥) → N) → (T a → N → ⊥)
           → (replied (unless a 10 0 orElse unless b 13 0) new ≡ refuses 10 0) ↔ N

@@ -10,6 +10,7 @@ pub mod Reach
 pub mod Replies
 pub mod Judging
 pub mod Decision
+pub mod Looking
 pub mod Merging
 pub mod Rewriting
 pub mod Book

@@ -5,22 +5,22 @@ use mathlib.Core.List.{List, [], _∷_, _++_, map}
 use lib.Dec.{eqb, ltb}
 use lib.ListN.{length, take, drop}
 use Rattle.flc.specs.Sets.{either, first}
-use Rattle.flc.specs.Formula.{Table}
 use Rattle.flc.specs.Bisimulation.{alike}
 use Rattle.case_model.specs.Limits.{mostStates, standard}
 use Rattle.case_model.specs.Bytes.{listOf}
 use Rattle.case_model.specs.Case.{Case, read, write, listed, table}
 use Rattle.case_model.specs.Kinds.{Triple}
+use Rattle.case_model.specs.Looking.{looked}
 use Rattle.case_model.specs.Rows.{Found, _orElse_, unless, row8, refusals}
 use Rattle.case_model.specs.Replies.{Reply, replied, row13}
 
 -- ---- clause 4.3: the first state, from 0 on, that is alike to s
-unfoldable pub lowestAlike : Table → ℕ → ℕ
-lowestAlike L s = first (alike L s) 0 s
+unfoldable pub lowestAlike : Case → ℕ → ℕ
+lowestAlike c s = first (alike (looked c) (table c) s) 0 s
 
 unfoldable pub classing : List ℕ → ℕ → Reply (List ℕ)
 classing f room =
-    let new : List ℕ = listOf (length (read f .labels)) (lowestAlike (table (read f))) in
+    let new : List ℕ = listOf (length (read f .labels)) (lowestAlike (read f)) in
     replied (refusals standard f orElse row13 new room) new
 
 -- ---- merging: k is kept, r removed
@@ -71,7 +71,7 @@ merge c k r = record {
 
 -- clause 8.10: one state, or two that are not alike
 abbrev pub row10 : Case → ℕ → ℕ → Found
-row10 c s t = unless (not (eqb s t) && alike (table c) s t) 10 0
+row10 c s t = unless (not (eqb s t) && alike (looked c) (table c) s t) 10 0
 
 -- clauses 4.4 and 7.4: the lower of s and t is kept
 unfoldable pub merging : List ℕ → ℕ → ℕ → ℕ → Reply (List ℕ)

@@ -12,6 +12,7 @@ use Rattle.flc.specs.Bisimulation.{bisimulation}
 use Rattle.case_model.specs.Limits.{standard}
 use Rattle.case_model.specs.Bytes.{byteAt}
 use Rattle.case_model.specs.Case.{Case, read, table}
+use Rattle.case_model.specs.Looking.{looked}
 use Rattle.case_model.specs.Rows.{sound, refusals}
 use Rattle.case_model.specs.Replies.{Reply, answers, refuses, counted, written}
 use Rattle.case_model.specs.Judging.{Verdict, row9, judging}
@@ -51,7 +52,7 @@ Each P f (c ∷ l) = P f c × Each P (handed f (c .told) (c .after)) l
 abbrev pub UnlikeTold : List ℕ → Call → Type 0
 UnlikeTold f c =
     (s t room : ℕ) → edit c ≡ merges s t room → s < length (read f .labels) → t < length (read f .labels) → (s ≡ t → ⊥)
-    → (c .told ≡ refuses 10 0) ↔ ((R : ℕ → ℕ → Bool) → T (bisimulation (table (read f)) R) → T (R s t) → ⊥)
+    → (c .told ≡ refuses 10 0) ↔ ((R : ℕ → ℕ → Bool) → T (bisimulation (looked (read f)) (table (read f)) R) → T (R s t) → ⊥)
 
 -- clauses 6.5 and 6.6: the replies of the plain book
 unfoldable pub replies : Book → List Edit → List (Reply ℕ)

@@ -4,24 +4,23 @@ use Prim.Native.Nat.{ℕ, zero, suc, _/_, _%_, _^_, _≤_, _<_}
 use mathlib.Core.Bool.{true, false, cond}
 use mathlib.Core.Logic.{_⊎_, inl, inr, ⊎-elim}
 use mathlib.Core.Path.{_≡_, refl, sym, subst}
-use native.Mathlib.Decide.{decLt, ℕ-discrete}
+use native.Mathlib.Decide.{ℕ-discrete}
 use native.Mathlib.Nat.{not-suc-le-zero}
 use native.Mathlib.Omega.{arith}
 use borrow.Author.Tests.{eq-eqb, lt-ltb}
 use lib.Bits.{bitOr}
 use lib.Dec.{T, ltb, eqb→eq}
-use lib.ListN.{length, List·getD-eq-default}
 use Rattle.flc.specs.Sets.{has}
 use Rattle.flc.specs.Nodes.{Node, leaf, two, bind, Names}
 use Rattle.flc.proofs.Tests.{either-left, either-right, either-use}
 use Rattle.flc.proofs.Masks.{has-or, has-empty, has-single}
 use Rattle.flc.proofs.Unfolding.{Lower}
 use Rattle.case_model.specs.Limits.{mostNodes}
-use Rattle.case_model.specs.Kinds.{Triple, kinds, kindAt, nodeOf}
+use Rattle.case_model.specs.Kinds.{Triple, kindAt, nodeOf}
 use Rattle.case_model.specs.Case.{Case, nodeAt}
 use Rattle.case_model.specs.Valid.{ValidRule}
 use Rattle.case_model.specs.Reach.{Reached, the-root, named, ReachSet}
-use Rattle.case_model.proofs.Nodes.{node-lower}
+use Rattle.case_model.proofs.Nodes.{all-lower, reached-low}
 use Rattle.case_reader.specs.NodeKinds.{lineOf}
 use Rattle.case_reader.specs.NodeSets.{withNode, withAll, withNamed, spread}
 use Rattle.case_reader.specs.declared.kinds.Kind.{Kind}
@@ -139,14 +138,6 @@ module _ (N : ℕ → Node) where
 
 -- ---- the rule's nodes
 module _ {c : Case} (valid : ValidRule c) where
-  -- a node past the end names nothing
-  all-lower : (j : ℕ) → Lower (nodeAt c) j
-  unfolding nodeAt kindAt kinds
-  all-lower j = elim (decLt j (length (c .nodes))) [
-    | yes h ↦ node-lower valid j h
-    | no h ↦ λ i e. absurd (subst (λ t. Names (kindAt (t .0) .node (t .1) (t .2)) i) (List·getD-eq-default (c .nodes) (0, 0, 0) {n = j} (omega arith)) e)
-  ]
-
   -- from the root
   abbrev start : ℕ
   start = withNode 0 (c .root)
@@ -159,19 +150,15 @@ module _ {c : Case} (valid : ValidRule c) where
   sound = spread-sound (nodeAt c) (Reached (nodeAt c) (c .root)) (λ i s r e. named r e) turns start
       (λ s t. ⊎-elim (λ u. absurd (subst T (has-empty s) u)) (λ e. subst (Reached (nodeAt c) (c .root)) (sym e) the-root) (with-use 0 (c .root) s t))
 
-  low : (j : ℕ) → Reached (nodeAt c) (c .root) j → j < turns
-  low _ the-root = omega arith
-  low j (named {i} r e) = omega (arith, all-lower i j e, low i r)
-
   pub root-place : c .root < mostNodes
   root-place = omega (arith, valid .root, valid .most)
 
   place : (j : ℕ) → Reached (nodeAt c) (c .root) j → j < mostNodes
-  place j r = omega (arith, low j r, root-place)
+  place j r = omega (arith, reached-low valid j r, root-place)
 
   complete : (j : ℕ) → Reached (nodeAt c) (c .root) j → T (has (spread (nodeAt c) turns start) j)
   complete _ the-root = spread-keeps (nodeAt c) turns start (c .root) (with-in 0 (c .root) root-place)
-  complete j (named {i} r e) = spread-closed (nodeAt c) all-lower turns start i (low i r) (complete i r) j (place j (named r e)) e
+  complete j (named {i} r e) = spread-closed (nodeAt c) (all-lower valid) turns start i (reached-low valid i r) (complete i r) j (place j (named r e)) e
 
   pub reach-set : ReachSet c (spread (nodeAt c) (suc (c .root)) (withNode 0 (c .root)))
   reach-set = record { is = λ j h. (sound j, complete j) }

@@ -1,7 +1,7 @@
 -- A node that is no binder: what the code knows of it once its kind is known, and that what is filled in for it is its function.
 -- The kind's line gives the node and the ranges of its operands; a node's function is made of those of the nodes that it names, which are lower.
 use Prim.Native.Nat.{ℕ, _+_, _*_, _≤_, _<_}
-use mathlib.Core.Bool.{Bool, true, _&&_}
+use mathlib.Core.Bool.{Bool, true}
 use mathlib.Core.List.{List}
 use mathlib.Core.Logic.{inr}
 use mathlib.Core.Path.{_≡_, refl, sym, ap, ap₂, _∙_, subst}
@@ -18,20 +18,18 @@ use Rattle.flc.proofs.Tests.{both-mk}
 use Rattle.flc.proofs.Meanings.{mean-small, mean-or, mean-and}
 use Rattle.flc.proofs.Unfolding.{formulaAt-node}
 use Rattle.case_model.specs.Limits.{variables}
-use Rattle.case_model.specs.Kinds as byTable
 use Rattle.case_model.specs.Kinds.{fits, kinds, kindAt, nodeOf, nodeHolds}
 use Rattle.case_model.specs.Areas.{Filled}
 use Rattle.case_model.proofs.Tests.{is-true, and-l, and-r}
 use Rattle.case_model.proofs.Nodes.{Fits, fits-constant, fits-variable, fits-pair, fits-binder, fits-bind}
 use Rattle.case_reader.specs.declared.parts.Triple as code
 use Rattle.case_reader.specs.declared.kinds.Atom.{Atom}
-use Rattle.case_reader.specs.declared.kinds.Atom.the-variants as atoms
 use Rattle.case_reader.specs.declared.kinds.Operator.{Operator}
 use Rattle.case_reader.specs.declared.kinds.Kind.{Kind}
 use Rattle.case_reader.specs.declared.kinds.Kind.the-variants as kind
 use Rattle.case_reader.specs.NodeKinds.{atomWith, operandOf, lineOf}
 use Rattle.case_reader.specs.Read.{triple}
-use Rattle.case_reader.proofs.Knowing.{by-kind}
+use Rattle.case_reader.proofs.Knowing.{by-kind, operands, atom-operand}
 use Rattle.case_plan.specs.Plans.{Plan, nodesOf, meaning, tableOf, Within, Sound}
 use Rattle.case_plan.proofs.Scopes.{node-fits, node-lower, scope-frees, scope-names}
 use Rattle.engine.specs.Blocks.{block, env, Right, value, Fillable, NodeFilled}
@@ -43,15 +41,14 @@ module _ (p : Plan) (j : ℕ) {t : code.Triple} (r : triple t ≡ p .nodes j) {k
   unfolding nodesOf
   known = sym (by-kind (triple t) (λ n. n) q e ∙ ap nodeOf r)
 
-  operands : Sound p → j < p .count → (fits (lineOf k′ .first) j (t .1) && fits (lineOf k′ .second) j (t .2)) ≡ true
-  operands S h =
-      subst (λ (κ : byTable.Kind). (fits (κ .first) j (t .1) && fits (κ .second) j (t .2)) ≡ true) (sym e ∙ ap lineOf q)
-      (and-r (ltb (t .0) (length kinds)) _ (subst (λ x. nodeHolds j x ≡ true) (sym r) (S .kinds j h)))
-
 module _ {p : Plan} {w : List ℕ} {j : ℕ} (F : Fillable p w j) where
   -- where its block lies
   pub here : j * p .size + p .size ≤ length w
   here = omega (arith, apart (p .size) j (p .count) (F .there), F .room)
+
+  -- its operands fit
+  holds : (t : code.Triple) → triple t ≡ p .nodes j → nodeHolds j (triple t) ≡ true
+  holds t r = subst (λ x. nodeHolds j x ≡ true) (sym r) (F .sound .kinds j (F .there))
 
   module _ {t : code.Triple} (r : triple t ≡ p .nodes j) {k : Kind} (e : lineOf k ≡ kindAt (t .0)) where
     -- what is filled in for the kind's node is filled in for node j
@@ -61,18 +58,8 @@ module _ {p : Plan} {w : List ℕ} {j : ℕ} (F : Fillable p w j) where
     done q {v} S =
         subst (λ n. Filled w v (j * p .size) (p .size) (value p n (block p w) (λ v. block p w (p .homes v)))) (sym (known p j r e q)) S
 
-    -- the operand of an atom, which is no node
-    pub atom-operand : {x : Atom} → k ≡ kind.Atom x → (i : ℕ) → fits (operandOf x) i (t .1) ≡ true
-    atom-operand {x} q i = any x i j (t .1) ∙ and-l (fits (operandOf x) j (t .1)) _ (operands p j r e q (F .sound) (F .there))
-      where
-        any : (x : Atom) (i j a : ℕ) → fits (operandOf x) i a ≡ fits (operandOf x) j a
-        any atoms.Top i j a = refl
-        any atoms.Bottom i j a = refl
-        any atoms.Proposition i j a = refl
-        any atoms.Complement i j a = refl
-        any atoms.Tau i j a = refl
-        any (atoms.Action d) i j a = refl
-        any (atoms.Group d) i j a = refl
+    pub operand-fits : {x : Atom} → k ≡ kind.Atom x → (i : ℕ) → fits (operandOf x) i (t .1) ≡ true
+    operand-fits = atom-operand j (triple t) e (holds t r)
 
     pub atom-done : {x : Atom} → k ≡ kind.Atom x → {v : List ℕ}
         → Filled w v (j * p .size) (p .size) (meanAtom (tableOf p) (atomWith x (t .1))) → NodeFilled p w v j
@@ -83,7 +70,7 @@ module _ {p : Plan} {w : List ℕ} {j : ℕ} (F : Fillable p w j) where
     pub variable-low : k ≡ kind.Variable → (t .1 < variables) × (j < p .homes (t .1)) × (p .homes (t .1) < p .count)
     variable-low q =
         let (h, m) = F .bound (t .1) (known p j r e q) in
-        (ltb-true (t .1) variables (and-l _ _ (operands p j r e q (F .sound) (F .there))), h, m)
+        (ltb-true (t .1) variables (and-l _ _ (operands j (triple t) e (holds t r) q)), h, m)
 
     pub variable-done : k ≡ kind.Variable → {v : List ℕ} → Filled w v (j * p .size) (p .size) (block p w (p .homes (t .1))) → NodeFilled p w v j
     unfolding mean
@@ -92,7 +79,7 @@ module _ {p : Plan} {w : List ℕ} {j : ℕ} (F : Fillable p w j) where
     -- the two nodes that an operator names
     pub two-low : {o : Operator} → k ≡ kind.Two o → (t .1 < j) × (t .2 < j)
     two-low q =
-        let h = operands p j r e q (F .sound) (F .there) in
+        let h = operands j (triple t) e (holds t r) q in
         (ltb-true (t .1) j (and-l _ _ h), ltb-true (t .2) j (and-r (ltb (t .1) j) _ h))
 
     pub two-sets : {o : Operator} → k ≡ kind.Two o → (x : ℕ) → x < p .size → block p w (t .2) x < p .size

@@ -9,7 +9,8 @@ use Rattle.flc.specs.Functions.{contained, below, monotone, agree, forAl
 use Rattle.flc.specs.Formula.{Table, top, bottom, tau, prop, nprop, modal, or, and, chop, Formula, atom, var, op, fix}
 use Rattle.flc.specs.Formula.{stepsBy, meanAtom, put, mean, none, free}
 use Rattle.flc.specs.Nodes.{Node, leaf, bind, lower, formulaAt, roundsOf, roundsAt}
-use Rattle.flc.specs.Bisimulation.{met, bisimulation, alike}
+use Rattle.flc.specs.Vocabulary.{onlyProps, onlyActs, vocabulary, reduct}
+use Rattle.flc.specs.Bisimulation.{met, matching, bisimilar, bisimulation, alike}
 
 -- what a closed rule gives at the set x
 value : Table → Formula → ℕ → ℕ
@@ -202,6 +203,14 @@ rule-tree : formulaAt rule 1 ≡ fix true 0 (atom tau)
 unfolding rule formulaAt lower
 rule-tree = refl
 
+-- ---- what is looked at
+
+-- a proposition, the complement of one, and groups of two actions and of one; {0, 2} is 5, {0, 7} is 129 and {1} is 2
+looked-at : vocabulary (op and (atom (prop 0)) (fix true 0 (op or (atom (nprop 2)) (op chop (atom (modal true 129)) (atom (modal false 2))))))
+    ≡ record { props = 5; acts = 131 }
+unfolding vocabulary first has
+looked-at = refl
+
 -- ---- alike states
 
 -- two states; state 0 goes round, state 1 does as the flag says
@@ -209,25 +218,30 @@ loops : Bool → Table
 unfolding both either
 loops b = record { n = 2; label = λ s. 0; step = λ s a t. both (eqb s t) (either (eqb s 0) b) }
 
-same-steps : alike (loops true) 0 1 ≡ true
-unfolding loops alike bisimulation met forSomeFun forAllFun forAll forSome has both either implies
+same-steps : alike (onlyActs 1) (loops true) 0 1 ≡ true
+unfolding loops alike bisimilar matching met reduct forSomeFun forAllFun forAll forSome has both either implies
 same-steps = refl
 
 -- the steps of both sides count
-only-one-steps : alike (loops false) 0 1 ≡ false
-unfolding loops alike bisimulation met forSomeFun forAllFun forAll forSome has both either implies
+only-one-steps : alike (onlyActs 1) (loops false) 0 1 ≡ false
+unfolding loops alike bisimilar matching met reduct forSomeFun forAllFun forAll forSome has both either implies
 only-one-steps = refl
 
-only-other-steps : alike (loops false) 1 0 ≡ false
-unfolding loops alike bisimulation met forSomeFun forAllFun forAll forSome has both either implies
+only-other-steps : alike (onlyActs 1) (loops false) 1 0 ≡ false
+unfolding loops alike bisimilar matching met reduct forSomeFun forAllFun forAll forSome has both either implies
 only-other-steps = refl
 
 -- a relation that meets the steps of one side only
-one-sided : bisimulation (loops false) (λ s t. both (eqb s 1) (eqb t 0)) ≡ false
-unfolding loops bisimulation met forAll forSome both either implies
+one-sided : bisimulation (onlyActs 1) (loops false) (λ s t. both (eqb s 1) (eqb t 0)) ≡ false
+unfolding loops bisimulation matching met reduct forAll forSome has both either implies
 one-sided = refl
 
--- the labels count
-other-label : alike (record { n = 2; label = λ s. s; step = λ s a t. false }) 0 1 ≡ false
-unfolding alike bisimulation met forSomeFun forAllFun forAll forSome has both either implies
-other-label = refl
+-- steps by action 7 count if 7 is looked at, and only then
+seventh : (alike (onlyActs 128) turn 0 1 ≡ false) × (alike (onlyActs 126) turn 0 1 ≡ true)
+unfolding turn alike bisimilar matching met reduct forSomeFun forAllFun forAll forSome has both either implies
+seventh = (refl, refl)
+
+-- so does proposition 0, which state 1 has
+labels : (alike (onlyProps 1) fork 1 0 ≡ false) × (alike (onlyProps 254) fork 1 0 ≡ true)
+unfolding fork alike bisimilar matching met reduct forSomeFun forAllFun forAll forSome has both either implies
+labels = (refl, refl)

@@ -11,6 +11,8 @@ pub mod Unfolding
 pub mod Groups
 pub mod Laws
 pub mod Invariance
-pub mod Alikeness
+pub mod Vocabularies
+pub mod Bisimilarity
+pub mod Likeness
 pub mod Packing
 pub mod Evaluation

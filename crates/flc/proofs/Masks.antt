@@ -75,6 +75,17 @@ setOf-has (suc n) x h =
 pub set-ext : (n x y : ℕ) → x < 2 ^ n → y < 2 ^ n → ((s : ℕ) → s < n → has x s ≡ has y s) → x ≡ y
 set-ext n x y i j e = sym (setOf-has n x i) ∙ setOf-ext n (has x) (has y) e ∙ setOf-has n y j
 
+lt-pow : (n : ℕ) → n < 2 ^ n
+lt-pow zero = omega arith
+lt-pow (suc n) = omega (arith, lt-pow n)
+
+-- of any width
+pub set-same : (x y : ℕ) → ((s : ℕ) → has x s ≡ has y s) → x ≡ y
+set-same x y e =
+    set-ext (x + y) x y
+    (omega (arith, lt-pow x, pow-mono {i = x} {j = x + y} (omega arith))) (omega (arith, lt-pow y, pow-mono {i = y} {j = x + y} (omega arith)))
+    (λ s i. e s)
+
 -- ---- | and & are union and intersection
 
 -- an operation f on numbers that works digit by digit, as c does on tests

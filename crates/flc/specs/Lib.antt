@@ -6,4 +6,6 @@ pub mod Order
 pub mod Iterates
 pub mod Nodes
 pub mod Own
+pub mod Vocabulary
 pub mod Bisimulation
+pub mod Likeness

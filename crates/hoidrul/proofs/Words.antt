@@ -20,6 +20,7 @@ use Rattle.case_model.specs.Rows.{Found, sound, refused, _orElse_, unless, row8
 use Rattle.case_model.specs.Limits.{mostNodes, standard}
 use Rattle.case_model.specs.Replies.{replied, row13, counted}
 use Rattle.case_model.specs.Judging.{verdict, row9, judging}
+use Rattle.case_model.specs.Looking.{looked}
 use Rattle.case_model.specs.Merging.{lowestAlike, classing, merge, row10, merging}
 use Rattle.case_model.specs.Rewriting.{Change, change, isThere, rewrite, rewriting}
 use Rattle.case_model.proofs.Sections.{left-sound}
@@ -62,7 +63,7 @@ module _ (f : List ℕ) (bytes : (i : ℕ) → byteAt f i < 256) where
   pub classing-fits : (room : ℕ) → Fits Any (counted (classing f room))
   unfolding classing
   classing-fits room =
-      let new : List ℕ = listOf (length (read f .labels)) (lowestAlike (table (read f))) in
+      let new : List ℕ = listOf (length (read f .labels)) (lowestAlike (read f)) in
       counts (refusals standard f orElse row13 new room) new (later (refusals-placed standard f bytes) (leb (length new) room) 13)
 
   pub merging-fits : (s t room : ℕ) → Fits Any (counted (merging f s t room))
@@ -72,7 +73,7 @@ module _ (f : List ℕ) (bytes : (i : ℕ) → byteAt f i < 256) where
       let n : ℕ = length (c .labels) in
       let new : List ℕ = write (merge c (min s t) (max s t)) in
       counts (refusals standard f orElse row8 s n orElse row8 t n orElse row10 c s t orElse row13 new room) new
-      (later (later (later (later (refusals-placed standard f bytes) (ltb s n) 8) (ltb t n) 8) (not (eqb s t) && alike (table c) s t) 10)
+      (later (later (later (later (refusals-placed standard f bytes) (ltb s n) 8) (ltb t n) 8) (not (eqb s t) && alike (looked c) (table c) s t) 10)
       (leb (length new) room) 13)
 
   pub rewriting-fits : (law j room : ℕ) → Fits Any (counted (rewriting f law j room))

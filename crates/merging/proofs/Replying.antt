@@ -9,8 +9,9 @@ use borrow.Author.Tests.{ltb-true}
 use lib.Dec.{eqb, ltb}
 use lib.ListN.{length, getD}
 use Rattle.flc.specs.Sets.{has}
-use Rattle.flc.specs.Bisimulation.{alike}
+use Rattle.flc.specs.Bisimulation.{bisimilar, alike}
 use Rattle.case_model.specs.Case.{read, table}
+use Rattle.case_model.specs.Looking.{looked}
 use Rattle.case_model.specs.Rows.{Found, sound, refused, _orElse_, unless, refusals}
 use Rattle.case_model.specs.Limits.{mostStates, standard}
 use Rattle.case_model.specs.Replies.{refuses}
@@ -44,8 +45,9 @@ module _ (f : List ℕ) (s t room n : ℕ) (ok : refusals standard f ≡ sound) 
     inside = (ltb-true s n (search and-l), ltb-true t n (search and-r), omega (arith, states, accepted-valid standard f ok .table .few))
 
     -- what the row of s says of t
-    module _ {g : Graph} {rows : List ℕ} (d : Drawn (read f) g) (r : Rows (g .states) rows (alike (tableOf g))) {b : Bool} (m : b ≡ has (getD rows s 0) t) where
-      alike-is : alike (table (read f)) s t ≡ b
+    module _ {g : Graph} {rows : List ℕ} (d : Drawn (read f) g) (r : Rows (g .states) rows (bisimilar (tableOf g)))
+        {b : Bool} (m : b ≡ has (getD rows s 0) t) where
+      alike-is : alike (looked (read f)) (table (read f)) s t ≡ b
       unfolding related
       alike-is = let (p, q, few) = inside in sym (m ∙ rows-alike d r s t (omega arith) (omega arith))
 

@@ -1,30 +1,25 @@
 -- What is filled in for an atom or an operator is its table.
--- Once the atom is known, so is the range of its operand; what the table functions fill in is the atom's meaning, entry by entry.
+-- What the table functions fill in is the atom's meaning, entry by entry.
 use Prim.Native.Nat.{ℕ, _-_, _*_, _%_, _^_, _<_}
-use mathlib.Core.Bool.{Bool, true}
+use mathlib.Core.Bool.{Bool}
 use mathlib.Core.List.{List}
 use mathlib.Core.Path.{_≡_, sym, ap, ap₂, _∙_, subst}
-use borrow.Author.Tests.{ltb-true}
 use native.Mathlib.Nat.{one-mul, mod-eq-of-lt}
 use native.Mathlib.Omega.{arith}
 use lib.Pow.{pow-lt}
 use Rattle.flc.specs.Formula.{modal, meanAtom}
 use Rattle.flc.proofs.Masks.{setOf-none}
-use Rattle.case_model.specs.Kinds.{Operand, under, fits}
 use Rattle.case_model.specs.Areas.{Filled}
 use Rattle.case_model.proofs.Filling.{filled-ext}
 use Rattle.case_reader.specs.declared.kinds.Atom.{Atom}
 use Rattle.case_reader.specs.declared.kinds.Atom.the-variants as atoms
 use Rattle.case_reader.specs.declared.kinds.Operator.{Operator}
-use Rattle.case_reader.specs.NodeKinds.{atomWith, opOf, operandOf}
+use Rattle.case_reader.specs.NodeKinds.{atomWith, opOf}
 use Rattle.case_plan.specs.Plans.{Plan, Sized}
 use Rattle.tables.specs.Tables.{AtomFilled, OperatorFilled}
 use Rattle.tables.proofs.Sizes.{set-all, set-rest, props-are}
 
 -- ---- atoms
-pub operand-under : {x x′ : Atom} (a : ℕ) {n : ℕ} → x ≡ x′ → ((i : ℕ) → fits (operandOf x) i a ≡ true) → operandOf x′ ≡ under n → a < n
-operand-under a {n} q h e = ltb-true a n (ap (λ (o : Operand). fits o 0 a) (sym (ap operandOf q ∙ e)) ∙ h 0)
-
 module _ {p : Plan} (z : Sized p) {w v : List ℕ} (a : ℕ) {base : ℕ} {x : Atom} where
   -- what was filled in for the atom that was found
   pub atom-holds : {x′ : Atom} → x ≡ x′ → AtomFilled p w v base (atomWith x′ a) → AtomFilled p w v base (atomWith x a)

@@ -100,10 +100,17 @@ pub fn longest() -> Case {
     with_rule(case, nodes)
 }
 
-/// The longest case without the steps that go back: each state differs from the next only in how
-/// far steps lead, which classes find state by state.
-pub fn stairs() -> Case {
+/// The longest case with a rule that looks at every action, so that likeness compares all its steps.
+pub fn all_compared() -> Case {
     let mut case = longest();
+    case.nodes[0] = (13, 255, 0);
+    case
+}
+
+/// The same without the steps that go back: each state differs from the next only in how far steps
+/// lead, which classes find state by state.
+pub fn stairs() -> Case {
+    let mut case = all_compared();
     case.steps.retain(|&(from, _, to)| to == from + 1);
     case
 }

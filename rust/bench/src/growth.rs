@@ -113,7 +113,7 @@ fn with_nesting(
 }
 
 fn longest_file(table: &mut Table) -> io::Result<()> {
-    let case = cases::longest();
+    let (case, compared) = (cases::longest(), cases::all_compared());
     let mut out = [0; hoidrul::LONGEST];
     called(table, "longest file: vet", &case, |file| {
         black_box(hoidrul::vet(file, 2)).expect("a case");
@@ -122,13 +122,13 @@ fn longest_file(table: &mut Table) -> io::Result<()> {
         black_box(hoidrul::open(file, 2)).expect("a section");
     })?;
     judged(table, "longest file: judge", &case, 0)?;
-    called(table, "longest file: classes", &case, |file| {
+    called(table, "longest file: classes", &compared, |file| {
         hoidrul::classes(file, &mut out).expect("classes");
     })?;
     called(table, "stairs: classes", &cases::stairs(), |file| {
         hoidrul::classes(file, &mut out).expect("classes");
     })?;
-    called(table, "longest file: merge", &case, |file| {
+    called(table, "longest file: merge", &compared, |file| {
         hoidrul::merge(file, 0, 15, &mut out).expect("alike states");
     })?;
     called(table, "longest file: rewrite", &case, |file| {

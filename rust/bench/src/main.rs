@@ -1,7 +1,7 @@
 //! Takes the processor time of whole judgements, and writes it as a table. To be run with `--release`.
 //!
 //! - `bench ratios FILE`: the proved judge against the same algorithm in Rust, and against the
-//!   plain checker.
+//!   plain checker; proved classes against those of the plain checker.
 //! - `bench groups FILE`: the proved library alone; what a modality over a group costs beside one
 //!   over a single action.
 //! - `bench growth FILE [SECONDS]`: the proved library alone; how times grow with states, nodes and

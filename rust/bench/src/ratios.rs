@@ -1,6 +1,7 @@
 //! The proved judge against the same algorithm in Rust (safe and indexed word by word, safe on
-//! slices, unchecked), and against the plain checker. All times of a line are of one run.
-use crate::cases::{modal, nested, repeated};
+//! slices, unchecked), and against the plain checker, which proved classes are timed against too. All
+//! times of a line are of one run.
+use crate::cases::{all_compared, modal, nested, repeated, stairs};
 use crate::nesting::{self, Binders};
 use crate::table::Table;
 use crate::task::Task;
@@ -8,9 +9,10 @@ use crate::timing::best;
 use differential::drives::wheels;
 use differential::judging::set_of;
 use plain::Case;
+use std::hint::black_box;
 use std::io;
 
-/// Writes nanoseconds a judgement, each the best of several runs.
+/// Writes nanoseconds a judgement, or a call of classes, each the best of several runs.
 pub fn write(path: &str) -> io::Result<()> {
     let head = "case\tn\trounds\tproved\tindexed\tsliced\tunchecked\tplain";
     let mut table = Table::create(path, head)?;
@@ -31,7 +33,9 @@ pub fn write(path: &str) -> io::Result<()> {
         against_rust(&mut table, &on_last(name, case, 5, 6))?;
     }
     against_plain(&mut table, &on_last("two wheels", wheels, 3, 4))?;
-    against_plain(&mut table, &on_last("nested binders", nested, 3, 4))
+    against_plain(&mut table, &on_last("nested binders", nested, 3, 4))?;
+    classes(&mut table, "longest file: classes", &all_compared())?;
+    classes(&mut table, "stairs: classes", &stairs())
 }
 
 fn whole_rules(table: &mut Table) -> io::Result<()> {
@@ -91,4 +95,18 @@ fn against_plain(table: &mut Table, task: &Task) -> io::Result<()> {
     table.line(&format!(
         "{name}\t{n}\t{rounds}\t{proved:.0}\t\t\t\t{plain:.0}"
     ))
+}
+
+/// Classes against those of the plain checker.
+fn classes(table: &mut Table, name: &str, case: &Case) -> io::Result<()> {
+    let (file, n) = (plain::write(case), case.labels.len());
+    let mut out = vec![0; n];
+    let found = plain::classes(&file, n).expect("classes");
+    assert_eq!(hoidrul::classes(&file, &mut out), Ok(n));
+    assert_eq!(out, found);
+    let [proved, plain] = best([
+        &mut || hoidrul::classes(black_box(&file), &mut out).expect("classes"),
+        &mut || plain::classes(black_box(&file), n).expect("classes").len(),
+    ]);
+    table.line(&format!("{name}\t{n}\t\t{proved:.0}\t\t\t\t{plain:.0}"))
 }

@@ -1,31 +1,93 @@
-//! Tables with many alike states, and with states that are nearly so.
+//! Tables with many alike states, and with states that are nearly so, as far as a rule looks.
+use crate::chops;
 use crate::formulas::{self, Bounds};
+use crate::measure::looked_at;
 use crate::rng::Rng;
-use plain::{Case, Triple};
+use plain::{members, Case, Triple};
 use std::collections::BTreeSet;
 
 type Steps = BTreeSet<Triple>;
 type Table = (Vec<u8>, Steps);
 
-/// A case of so many states; one table in three is nearly what it was drawn to be.
+/// A case of so many states.
 pub fn case(rng: &mut Rng, states: usize) -> Case {
-    let (mut labels, mut steps) = match rng.below(4) {
-        0 => mirrored_ring(rng, states),
-        1 => chains(rng, states),
-        _ => copies(rng, states),
-    };
-    if rng.one_in(3) {
-        disturb(rng, &mut labels, &mut steps);
-    }
+    let case = with_small_rule(rng, states);
+    with_table(rng, case)
+}
+
+/// The same with a rule of so many nodes at most in which the laws find much to rewrite.
+pub fn with_chops(rng: &mut Rng, states: usize, most: usize) -> Case {
+    let case = with_small_rule(rng, states);
+    let case = chops::put_into(rng, case, most);
+    with_table(rng, case)
+}
+
+fn with_small_rule(rng: &mut Rng, states: usize) -> Case {
     let bounds = Bounds {
         states,
         nesting: 1,
         depth: 3,
     };
+    formulas::case(rng, bounds)
+}
+
+/// The case with another table of as many states. One in three is nearly what it was drawn to be.
+fn with_table(rng: &mut Rng, case: Case) -> Case {
+    let states = case.labels.len();
+    let mut table = match rng.below(4) {
+        0 => mirrored_ring(rng, states),
+        1 => chains(rng, states),
+        _ => copies(rng, states),
+    };
+    if rng.one_in(3) {
+        disturb(rng, &mut table);
+    }
+    let looks = looked_at(&case);
+    let mut table = renamed(rng, &table, looks);
+    add_unseen(rng, &mut table, looks);
+    let (labels, steps) = table;
     Case {
         labels,
         steps: steps.into_iter().collect(),
-        ..formulas::case(rng, bounds)
+        ..case
+    }
+}
+
+/// The table with other propositions and actions for its lowest ones: where the rule looks, so that
+/// they count, or any.
+fn renamed(rng: &mut Rng, (labels, steps): &Table, (propositions, actions): (u8, u8)) -> Table {
+    let mut order = |first: u8| {
+        let mut numbers: Vec<usize> = (0..8).collect();
+        shuffle(rng, &mut numbers);
+        if !rng.one_in(4) {
+            numbers.sort_by_key(|&number| first >> number & 1 == 0);
+        }
+        numbers
+    };
+    let (propositions, actions) = (order(propositions), order(actions));
+    let bit = |label: u8, i: usize| (label >> i & 1) << propositions[i];
+    let label = |&label: &u8| (0..8).fold(0, |other, i| other | bit(label, i));
+    let step = |&(from, action, to): &Triple| (from, actions[usize::from(action)] as u8, to);
+    (
+        labels.iter().map(label).collect(),
+        steps.iter().map(step).collect(),
+    )
+}
+
+/// Often puts in what the rule does not look at: bits of labels, steps.
+fn add_unseen(rng: &mut Rng, (labels, steps): &mut Table, (propositions, actions): (u8, u8)) {
+    let states = labels.len();
+    if rng.one_in(2) {
+        for label in labels {
+            *label ^= rng.byte() & !propositions;
+        }
+    }
+    let unseen: Vec<u8> = members(!actions).collect();
+    if !unseen.is_empty() && rng.one_in(2) {
+        for _ in 0..rng.within(1..=2 * states) {
+            let (from, to) = (rng.byte_below(states), rng.byte_below(states));
+            steps.insert((from, rng.pick(&unseen), to));
+        }
     }
 }
 
@@ -39,10 +101,9 @@ fn copies(rng: &mut Rng, states: usize) -> Table {
     // One or two labels, so that steps must tell states apart too.
     let label: Vec<u8> = (0..originals).map(|_| rng.byte_below(2)).collect();
     let labels = original.iter().map(|&of| label[of]).collect();
-    let lowest = rng.byte_below(6);
     let mut steps = Steps::new();
     for (from, to) in pairs(originals) {
-        for action in lowest..lowest + 3 {
+        for action in 0..3 {
             if rng.one_in(3) {
                 copy_steps(rng, &mut steps, &original, (from, action, to));
             }
@@ -86,19 +147,19 @@ fn chains(rng: &mut Rng, states: usize) -> Table {
     } else {
         states / 2 * 2
     };
-    let steps = (2..last).map(|to| (to as u8 - 2, 1, to as u8));
+    let steps = (2..last).map(|to| (to as u8 - 2, 0, to as u8));
     (vec![rng.byte(); states], steps.collect())
 }
 
 /// Puts a step in or takes it out, or changes one label.
-fn disturb(rng: &mut Rng, labels: &mut [u8], steps: &mut Steps) {
+fn disturb(rng: &mut Rng, (labels, steps): &mut Table) {
     let states = labels.len();
     if rng.one_in(3) {
-        labels[rng.below(states)] ^= 1 << rng.below(8);
+        labels[rng.below(states)] ^= 1 << rng.below(2);
         return;
     }
     let state = |rng: &mut Rng| rng.byte_below(states);
-    let step = (state(rng), rng.byte_below(8), state(rng));
+    let step = (state(rng), rng.byte_below(4), state(rng));
     if !steps.remove(&step) {
         steps.insert(step);
     }

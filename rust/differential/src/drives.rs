@@ -75,6 +75,7 @@ fn of_the_printer() -> Vec<(&'static str, Case)> {
             printer::pulled_back_fed_again(),
         ),
         (ALIGNED, printer::pulled_back_fed_again()),
+        ("lamp_not_mentioned.case", printer::lamp_not_mentioned()),
         ("tight_at_any_current.case", printer::tight_at_any_current()),
     ]
 }

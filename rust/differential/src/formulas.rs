@@ -1,8 +1,8 @@
 //! Cases for judging: rules drawn from the root down, so that binders bind what their bodies use.
 //! Nodes are shared, and some that the root does not reach stand between the others.
-use crate::groups;
 use crate::rng::Rng;
 use crate::starts::starts;
+use crate::{generate, groups};
 use plain::kinds::{
     AND, BOX, CHOP, COMPLEMENT, DIAMOND, FALSE, MU, NU, OR, PROPOSITION, TAU, TRUE, VARIABLE,
 };
@@ -238,17 +238,21 @@ impl Rule {
         self.add(node)
     }
 
-    /// A node with free variables, bound elsewhere or nowhere; or a binder over any node.
+    /// A node with free variables, bound elsewhere or nowhere; or a binder over any node; or a leaf,
+    /// which may look where the rule does not.
     fn unreached(&mut self, rng: &mut Rng) {
         let variable = self.add((VARIABLE, rng.byte_below(16), 0));
         let below = rng.byte_below(self.nodes.len());
-        match (rng.below(3), self.unused.len()) {
+        match (rng.below(4), self.unused.len()) {
             (0, 4..) => {
                 let bound = self.unused.pop().expect("four at least");
                 self.add((rng.pick(&[MU, NU]), bound, below));
             }
             (1, _) => {
                 self.add((rng.pick(&[OR, AND, CHOP]), variable, below));
+            }
+            (2, _) => {
+                self.add(generate::leaf(rng));
             }
             _ => {}
         }

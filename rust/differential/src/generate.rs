@@ -1,4 +1,5 @@
-//! Valid cases: shared nodes, nested binders, unreached nodes with free variables.
+//! Valid cases: shared nodes, nested binders, unreached nodes with free variables or that would look
+//! at more than the rule does.
 use crate::groups::group;
 use crate::rng::Rng;
 use crate::starts::starts;
@@ -193,7 +194,7 @@ impl Rule {
 }
 
 /// A node that names no other and is no variable.
-fn leaf(rng: &mut Rng) -> Triple {
+pub fn leaf(rng: &mut Rng) -> Triple {
     const KINDS: [u8; 9] = [
         TRUE,
         FALSE,

@@ -87,6 +87,13 @@ pub fn proved(file: &[u8], set: u16, words: usize) -> Judged {
     reply.map(|verdict| in_states(file, verdict))
 }
 
+/// For each state of a case whether it holds, by the proved library alone.
+pub fn verdict(file: &[u8]) -> Vec<bool> {
+    let (states, _) = plain::vet(file, 0).expect("a case");
+    let judged = proved(file, all_states(states), needed(file));
+    judged.expect("the area suffices").states
+}
+
 /// Calls the library with an area that held garbage, and checks every word of it: zero after an
 /// answer, unchanged after a refusal.
 fn lending<T: std::fmt::Debug>(

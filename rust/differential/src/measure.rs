@@ -1,5 +1,6 @@
 //! How large a rule is to the plain checker's meanings, and what is in it.
 use crate::groups::has_group;
+use plain::kinds::{BOX, COMPLEMENT, DIAMOND, GROUP_BOX, GROUP_DIAMOND, PROPOSITION};
 use plain::{Case, Shape, Triple};
 
 /// The binders on one path down from the root, at most.
@@ -17,6 +18,18 @@ pub fn tree_size(case: &Case, turns: usize) -> usize {
 /// Whether the root reaches a node with a group.
 pub fn reaches_group(case: &Case) -> bool {
     fold(case, |leaf| has_group(leaf).into(), usize::max, |body| body) > 0
+}
+
+/// The propositions and the actions that the rule looks at: bit i for number i.
+pub fn looked_at(case: &Case) -> (u8, u8) {
+    let leaf = |(kind, a, _)| match kind {
+        PROPOSITION | COMPLEMENT => 1_usize << a,
+        DIAMOND | BOX => 256_usize << a,
+        GROUP_DIAMOND | GROUP_BOX => usize::from(a) << 8,
+        _ => 0,
+    };
+    let both = fold(case, leaf, |left, right| left | right, |body| body);
+    (both as u8, (both >> 8) as u8)
 }
 
 /// The root's measure: a leaf's is given, any other node's made from those of the nodes it names.

@@ -7,6 +7,7 @@ use plain::{Case, Triple};
 
 const FEED: u8 = 0;
 const BACK: u8 = 1;
+const LAMP: u8 = 7;
 
 // The nodes that name no others; each rule begins with those it needs.
 const DIAMOND_FEED: Triple = (6, FEED, 0);
@@ -172,7 +173,21 @@ pub fn at_rest_after_any() -> Case {
 
 /// (νZ.τ and [back];Z;([feed] and ⟨feed⟩));cutter. As many steps as have been pulled back can be
 /// fed again, and however they are, the label is at the cutter again.
-///
+const FED_AGAIN: [Triple; 12] = [
+    Z,
+    TAU,
+    DIAMOND_FEED,
+    BOX_FEED,
+    BOX_BACK,
+    MARK,
+    (10, 4, 0), // [back];Z
+    (9, 3, 2),  // [feed] and ⟨feed⟩
+    (10, 6, 7), // [back];Z;([feed] and ⟨feed⟩)
+    (9, 1, 8),  // τ and that
+    (12, 0, 9), // νZ
+    (10, 10, 5),
+];
+
 /// From the cutter, 0, up to two steps are pulled back. From 3 one is, and feeding it may slip,
 /// to 5. The printer wakes in 0.
 pub fn pulled_back_fed_again() -> Case {
@@ -185,21 +200,31 @@ pub fn pulled_back_fed_again() -> Case {
         (4, FEED, 3),
         (4, FEED, 5),
     ];
-    let nodes = [
-        Z,
-        TAU,
-        DIAMOND_FEED,
-        BOX_FEED,
-        BOX_BACK,
-        MARK,
-        (10, 4, 0), // [back];Z
-        (9, 3, 2),  // [feed] and ⟨feed⟩
-        (10, 6, 7), // [back];Z;([feed] and ⟨feed⟩)
-        (9, 1, 8),  // τ and that
-        (12, 0, 9), // νZ
-        (10, 10, 5),
+    starting_in(&[0], case(&[1, 0, 0, 1, 0, 0], &steps, &FED_AGAIN))
+}
+
+/// The same rule, and a lamp: it is lit in 0 and 2, action 7 switches it, and the rule mentions
+/// neither. So 0 and 1, at the cutter, are alike, and so are 2 and 3, a step back.
+///
+/// From 4 a step is pulled back too, and feeding it may slip, so that the paper stays in 5; the lamp
+/// is broken there. The printer wakes in 0 or in 1.
+pub fn lamp_not_mentioned() -> Case {
+    const LIT: u8 = 128;
+    let steps = [
+        (0, BACK, 2),
+        (0, LAMP, 1),
+        (1, BACK, 3),
+        (1, LAMP, 0),
+        (2, FEED, 0),
+        (2, LAMP, 3),
+        (3, FEED, 1),
+        (3, LAMP, 2),
+        (4, BACK, 5),
+        (5, FEED, 4),
+        (5, FEED, 5),
     ];
-    starting_in(&[0], case(&[1, 0, 0, 1, 0, 0], &steps, &nodes))
+    let labels = [1 | LIT, 1, LIT, 0, 1, 0];
+    starting_in(&[0, 1], case(&labels, &steps, &FED_AGAIN))
 }
 
 /// νZ.tight and [any current];Z. Whatever currents the motor gets, one after the other, the ribbon

@@ -4,12 +4,12 @@
 //! first file may be padded; refusals leave it so, and what the first accepted edit writes is packed.
 use differential::edits::{turn, LONGEST};
 use differential::groups::has_group;
-use differential::judging::{all_states, needed, proved, proved_starts};
+use differential::judging::{needed, proved_starts, verdict};
 use differential::padding::{self, gaps_of, padding_of, PACKED};
 use differential::replies::refused;
 use differential::rng::Rng;
-use differential::{alike_tables, chops, drives, generate};
-use plain::{write, Book, Case, Edit, Shape, Triple};
+use differential::{alike_tables, drives, generate};
+use plain::{alike, alike_in_full, write, Book, Case, Edit, Shape, Triple};
 
 /// How often each reply came.
 #[derive(Default, Debug)]
@@ -17,6 +17,10 @@ struct Count {
     merges: usize,
     /// Those of a case whose rule has groups.
     merges_with_groups: usize,
+    /// Those of states that differ where the rule does not look.
+    merges_by_looks: usize,
+    /// Those of states that the first rule of the list tells apart.
+    merges_after_widening: usize,
     rewrites: usize,
     /// Those that put nodes in, with groups at lower nodes and at higher ones.
     between_groups: usize,
@@ -41,7 +45,7 @@ impl Count {
     /// An edit of this file that wrote another.
     fn accepted(&mut self, file: &[u8], edit: Edit, written: &[u8]) {
         let case = plain::parse(file).expect("a case");
-        let nodes = case.nodes;
+        let nodes = &case.nodes;
         self.padded[1] += usize::from(gaps_of(file) != PACKED);
         let groups = |nodes: &[Triple]| nodes.iter().any(|&node| has_group(node));
         match edit {
@@ -49,7 +53,9 @@ impl Count {
                 self.merges += 1;
                 let removed = s.max(t) as u8;
                 self.starts_merged += usize::from(case.starts.contains(&removed));
-                self.merges_with_groups += usize::from(groups(&nodes));
+                self.merges_with_groups += usize::from(groups(nodes));
+                let in_full = alike_in_full(&case).contains(&(s, t));
+                self.merges_by_looks += usize::from(!in_full);
             }
             Edit::Rewrite { node, .. } => {
                 self.rewrites += 1;
@@ -60,13 +66,20 @@ impl Count {
             }
         }
     }
-}
 
-/// For each state whether it holds.
-fn verdict(file: &[u8]) -> Vec<bool> {
-    let (states, _) = plain::vet(file, 0).expect("a case");
-    let judged = proved(file, all_states(states), needed(file));
-    judged.expect("the area suffices").states
+    /// An edit that is accepted: would it have been under the rule of the first file?
+    fn widened(&mut self, first: &[u8], file: &[u8], edit: Edit) {
+        let [first, case] = [first, file].map(|file| plain::parse(file).expect("a case"));
+        if let Edit::Merge { s, t } = edit {
+            let before = Case {
+                nodes: first.nodes,
+                root: first.root,
+                ..case
+            };
+            let refused = !alike(&before).contains(&(s, t));
+            self.merges_after_widening += usize::from(refused);
+        }
+    }
 }
 
 /// Whether every start state holds, of the states in the verdict.
@@ -93,6 +106,7 @@ fn run(rng: &mut Rng, first: &[u8], count: &mut Count) {
             (Ok(written), edit) => {
                 assert_eq!(gaps_of(&written), PACKED, "{edit:?} of {file:?}");
                 count.accepted(&file, edit, &written);
+                count.widened(first, &file, edit);
                 file = written;
             }
         }
@@ -165,11 +179,11 @@ fn room(rng: &mut Rng, file: &[u8]) -> usize {
 
 /// A case with alike states, its rule small, middling or large.
 fn case(rng: &mut Rng, i: usize) -> Case {
-    let case = alike_tables::case(rng, 1 + i % 8);
+    let states = 1 + i % 8;
     match i % 3 {
-        0 => case,
-        1 => chops::put_into(rng, case, 24),
-        _ => chops::put_into(rng, case, 64),
+        0 => alike_tables::case(rng, states),
+        1 => alike_tables::with_chops(rng, states, 24),
+        _ => alike_tables::with_chops(rng, states, 64),
     }
 }
 
@@ -177,7 +191,7 @@ fn case(rng: &mut Rng, i: usize) -> Case {
 fn alike_states() {
     let mut rng = Rng::new(901);
     let mut count = Count::default();
-    for i in 0..300 {
+    for i in 0..400 {
         // A verdict of all states or none tells little: a few draws look for another.
         let draws: Vec<Case> = (0..6).map(|_| case(&mut rng, i)).collect();
         let mixed = draws.iter().find(|case| is_mixed(&verdict(&write(case))));
@@ -193,14 +207,16 @@ fn alike_states() {
     assert!(count.starts.iter().all(|&lists| lists >= 40), "{count:?}");
     assert!(count.starts_merged >= 50, "{count:?}");
     assert!(count.merges_with_groups >= 100, "{count:?}");
+    assert!(count.merges_by_looks >= 100, "{count:?}");
+    assert!(count.merges_after_widening >= 5, "{count:?}");
     assert!(count.between_groups >= 100, "{count:?}");
     assert!(count.padded.iter().all(|&edits| edits >= 100), "{count:?}");
 }
 
-/// The rule τ and tt, with law 9 at its last node; two alike states and one that is not.
+/// The rule p0 and tt, with law 9 at its last node; two alike states and one that is not.
 #[test]
 fn a_refusal_leaves_the_padding() {
-    let case = drives::case(&[0, 0, 1], &[], &[(5, 0, 0), (0, 0, 0), (9, 0, 1)]);
+    let case = drives::case(&[0, 0, 1], &[], &[(2, 0, 0), (0, 0, 0), (9, 0, 1)]);
     let case = drives::starting_in(&[1, 2], case);
     let packed = write(&case);
     for gaps in padding::all() {
@@ -219,7 +235,7 @@ fn a_refusal_leaves_the_padding() {
         let edit = Edit::Rewrite { law: 9, node: 2 };
         let written = turn(&mut book, &first, edit, packed.len()).expect("the law fits");
         let swapped = Case {
-            nodes: vec![(5, 0, 0), (0, 0, 0), (9, 1, 0)],
+            nodes: vec![(2, 0, 0), (0, 0, 0), (9, 1, 0)],
             ..case.clone()
         };
         assert_eq!(written, write(&swapped));

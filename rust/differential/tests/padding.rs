@@ -8,7 +8,7 @@ use differential::padding::{self, all, gap_before, gaps_of, padded, sections, PA
 use differential::replies::{in_plain, refused};
 use differential::rng::Rng;
 use differential::tally::{compare, Reply};
-use differential::{alike_tables, chops, generate};
+use differential::{alike_tables, generate};
 use plain::{pack, write, Case, Edit, Refusal};
 
 /// What the entries reply, the places of sections aside.
@@ -55,9 +55,9 @@ fn edits(states: usize, nodes: usize) -> impl Iterator<Item = (Edit, usize)> {
     both.flat_map(|edit| [(edit, LONGEST), (edit, 33)])
 }
 
-/// Two alike states and one that is not, without steps; the rule τ and tt.
+/// Two alike states and one that is not, without steps; the rule p0 and tt.
 fn small() -> Case {
-    drives::case(&[0, 0, 1], &[], &[(5, 0, 0), (0, 0, 0), (9, 0, 1)])
+    drives::case(&[0, 0, 1], &[], &[(2, 0, 0), (0, 0, 0), (9, 0, 1)])
 }
 
 /// Cases with and without steps and start states, so that padding stands on both sides of an empty
@@ -67,8 +67,7 @@ fn cases() -> Vec<Case> {
     cases.extend(drives().into_iter().map(|(_, case)| case));
     let mut rng = Rng::new(980);
     for i in 0..8 {
-        let alike = alike_tables::case(&mut rng, 2 + i % 5);
-        cases.push(chops::put_into(&mut rng, alike, 24));
+        cases.push(alike_tables::with_chops(&mut rng, 2 + i % 5, 24));
         cases.push(generate::case(&mut rng));
     }
     cases
@@ -134,7 +133,7 @@ fn edits_write_packed_files() {
         ..case.clone()
     };
     let rewritten = Case {
-        nodes: vec![(5, 0, 0), (0, 0, 0), (9, 1, 0)],
+        nodes: vec![(2, 0, 0), (0, 0, 0), (9, 1, 0)],
         ..case.clone()
     };
     let (merge, law_9) = (

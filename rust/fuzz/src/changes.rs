@@ -7,7 +7,7 @@ use plain::{pack, PAIRS_LENGTH};
 /// One to three changes.
 pub fn change(rng: &mut Rng, file: &mut Vec<u8>) {
     for _ in 0..rng.within(1..=3) {
-        match rng.below(11) {
+        match rng.below(12) {
             0 => flip(rng, file),
             1..=2 => border_byte(rng, file),
             3 => border_pair(rng, file),
@@ -17,6 +17,7 @@ pub fn change(rng: &mut Rng, file: &mut Vec<u8>) {
             7 => start(rng, file),
             8 => lay_anew(rng, file),
             9 => padding_byte(rng, file),
+            10 => root(rng, file),
             _ => section(rng, file),
         }
     }
@@ -82,6 +83,13 @@ fn group(rng: &mut Rng, file: &mut [u8]) {
     let (kind, group, unused) = groups::node(rng);
     let b = if rng.one_in(4) { rng.byte() } else { unused };
     file[at..at + 3].copy_from_slice(&[kind, group, b]);
+}
+
+/// Another root, which reaches other nodes, if the file is still a case.
+fn root(rng: &mut Rng, file: &mut [u8]) {
+    if let Ok(rule) = plain::open(file, 2) {
+        file[rule.end - 1] = rng.byte_below(rule.len() / 3 + 1);
+    }
 }
 
 /// A byte more in the list of start states, in its place or not, if the file is still a case.

@@ -5,7 +5,7 @@ use differential::drives::drives;
 use differential::formulas::{self, Bounds};
 use differential::rng::Rng;
 use differential::strange::STRANGE;
-use differential::{alike_tables, chops, generate, padding};
+use differential::{alike_tables, generate, padding};
 use plain::Case;
 use std::ops::RangeInclusive;
 
@@ -61,14 +61,14 @@ fn judged(rng: &mut Rng, states: RangeInclusive<usize>, nesting: usize) -> Case 
 pub fn with_alike_states(rng: &mut Rng) -> Case {
     let states = if rng.one_in(4) { 16 } else { 6 };
     let states = rng.within(1..=states);
-    let case = alike_tables::case(rng, states);
     match rng.below(4) {
-        0 => case,
-        1 => chops::put_into(rng, case, 16),
-        2 => chops::put_into(rng, case, 64),
+        0 => alike_tables::case(rng, states),
+        1 => alike_tables::with_chops(rng, states, 16),
+        2 => alike_tables::with_chops(rng, states, 64),
         _ => {
-            let mut full = chops::put_into(rng, case, 60);
-            full.nodes.resize(rng.within(60..=64), (0, 0, 0));
+            let mut full = alike_tables::with_chops(rng, states, 60);
+            let nodes = rng.within(60..=64);
+            full.nodes.resize_with(nodes, || generate::leaf(rng));
             full
         }
     }
@@ -96,6 +96,25 @@ mod tests {
         }
         assert!(4 * reached >= cases, "{reached} of {cases}");
         assert_eq!(groups.len(), 2 * 256);
+    }
+
+    /// Of the files that are cases many have states that differ only where the rule does not look,
+    /// and many have states that differ where it does.
+    #[test]
+    fn likeness() {
+        let mut rng = Rng::new(4);
+        let (mut cases, mut wider, mut unlike) = (0, 0, 0);
+        for _ in 0..4_000 {
+            let Ok(case) = plain::parse(&any(&mut rng)) else {
+                continue;
+            };
+            let (full, now) = (plain::alike_in_full(&case), plain::alike(&case));
+            cases += 1;
+            wider += usize::from(now.len() > full.len());
+            unlike += usize::from(now.len() < case.labels.len().pow(2));
+        }
+        assert!(4 * wider >= cases, "{wider} of {cases}");
+        assert!(4 * unlike >= cases, "{unlike} of {cases}");
     }
 
     /// Of the files that are cases many have start states, and every state is one of some case.

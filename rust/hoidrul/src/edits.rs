@@ -8,19 +8,22 @@ use crate::{ffi, Refusal};
 /// Writes one byte a state, the lowest that is alike to it, and answers the count of bytes, which
 /// is that of states.
 ///
-/// States are alike where a bisimulation relates them. That is a relation of states with equal
-/// labels in which each step of either state is met by one of the other, with the same action and
-/// into a related state.
+/// States are alike where a bisimulation relates them: their labels agree, and each step of either
+/// state is met by one of the other, with the same action and into a related state. It compares only
+/// as far as the rule looks: the propositions, and the steps of the actions, that occur in a node
+/// that the root reaches, where a group of actions stands for all of them. Other label bits and steps
+/// make no difference.
 ///
 /// Refusals: 1 to 7, then 13 for an area shorter than the result.
 ///
 /// ```
-/// // Three states, a step of action 0 from each of 0 and 1 to 2; the rule τ; start states 1 and 2.
+/// // Three states, a step of action 0 from each of 0 and 1 to 2; the rule ⟨0⟩, which does not look at
+/// // proposition 7, that only 1 has; start states 1 and 2.
 /// let file = [
 ///     16, 0, 3, 0, 19, 0, 6, 0, 25, 0, 4, 0, 29, 0, 2, 0, // pairs
-///     0, 0, 0, // labels
+///     0, 128, 0, // labels
 ///     0, 0, 2, 1, 0, 2, // steps
-///     5, 0, 0, 0, // rule
+///     6, 0, 0, 0, // rule
 ///     1, 2, // start states
 /// ];
 /// let mut out = [9; 4];
@@ -36,9 +39,10 @@ pub fn classes(file: &[u8], out: &mut [u8]) -> Result<usize, Refusal> {
 }
 
 /// Merges two alike states, given in either order: writes the packed file of the case in which the
-/// lower stands for both, also in the list of start states, and answers its count of bytes. States
-/// above the higher move down by one. On the set of all states, each state holds exactly if the
-/// state standing for it does.
+/// lower stands for both, also in the list of start states, and answers its count of bytes. The lower
+/// keeps its whole label and all its steps, and steps to the higher lead to it, also where the rule
+/// does not look; steps of the higher are dropped. States above the higher move down by one. On the
+/// set of all states, each state holds exactly if the state standing for it does.
 ///
 /// Refusals: 1 to 7, then 8 for a state beyond the case, 10 for a state with itself or states not
 /// alike, 13 for an area shorter than the result.
@@ -47,9 +51,9 @@ pub fn classes(file: &[u8], out: &mut [u8]) -> Result<usize, Refusal> {
 /// // The case of `classes`.
 /// let file = [
 ///     16, 0, 3, 0, 19, 0, 6, 0, 25, 0, 4, 0, 29, 0, 2, 0, // pairs
-///     0, 0, 0, // labels
+///     0, 128, 0, // labels
 ///     0, 0, 2, 1, 0, 2, // steps
-///     5, 0, 0, 0, // rule
+///     6, 0, 0, 0, // rule
 ///     1, 2, // start states
 /// ];
 /// let mut out = [0; hoidrul::LONGEST];

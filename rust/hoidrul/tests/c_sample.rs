@@ -119,6 +119,7 @@ fn sample_prints_what_the_binding_answers() {
         "feed_and_back",
         "pulled_back_fed_again",
         "aligned_sections",
+        "lamp_not_mentioned",
         "tight_at_any_current",
     ];
     for name in cases {

@@ -36,6 +36,31 @@ fn start_states_are_carried() {
     assert_eq!(hoidrul::open(&file, hoidrul::STARTS), Ok(&[0, 4][..]));
 }
 
+/// The rule does not mention the lamp, the only difference of 0 and 1 and of 2 and 3.
+#[test]
+fn a_lamp() {
+    let smaller = scratch("merged_lamp.case");
+    let path = case("lamp_not_mentioned.case");
+    let print = printed(example("merge_alike", &[&path, &smaller]));
+    let lines = [
+        "states 6, merged 4",
+        "rounds 0, merged 0",
+        "0 yes, as 0 yes",
+        "1 yes, as 0 yes",
+        "2 no, as 1 no",
+        "3 no, as 1 no",
+        "4 no, as 2 no",
+        "5 no, as 3 no",
+        "starts yes, merged yes\n",
+    ];
+    assert_eq!(print, lines.join("\n"));
+    let file = fs::read(&smaller).unwrap();
+    assert_eq!(
+        hoidrul::open(&file, hoidrul::LABELS),
+        Ok(&[129, 128, 1, 0][..])
+    );
+}
+
 #[test]
 fn errors_name_their_file() {
     let told = |paths: &[&Path]| told(example("merge_alike", paths));

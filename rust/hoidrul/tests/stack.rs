@@ -55,7 +55,7 @@ fn worst_cases() -> Vec<Vec<u8>> {
     let one_kind = binders(|_| 11);
     vec![
         file(&[255; 16], &all_steps(), &chops([6, 0, 0])),
-        file(&[255; 16], &stairs, &chops([6, 0, 0])),
+        file(&[255; 16], &stairs, &chops([13, 255, 0])),
         file(&[255; 16], &all_steps(), &chops([14, 255, 0])),
         file(&[0; 16], &all_steps(), &one_kind),
         file(&[0; 2], &[[0, 0, 1], [1, 0, 0]], &one_kind),

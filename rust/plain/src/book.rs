@@ -55,13 +55,13 @@ mod tests {
     use super::*;
     use crate::case::{write, Case};
 
-    /// Four states without steps, of which 0 and 2, 1 and 3 are alike; the rule tt or ff.
+    /// Four states without steps, of which 0 and 2, 1 and 3 are alike; the rule p0 or ff.
     #[test]
     fn standing_numbers_follow_the_merges() {
         let case = Case {
             labels: vec![0, 1, 0, 1],
             steps: vec![],
-            nodes: vec![(0, 0, 0), (1, 0, 0), (8, 0, 1)],
+            nodes: vec![(2, 0, 0), (1, 0, 0), (8, 0, 1)],
             root: 2,
             starts: vec![2, 3],
         };
@@ -84,7 +84,7 @@ mod tests {
         assert_eq!(book.turn(merge(1, 2), 99), Ok(30));
         assert_eq!(book.standing(), [0, 1, 0, 1]);
 
-        let (labels, nodes) = (vec![0, 1], vec![(0, 0, 0), (1, 0, 0), (8, 1, 0)]);
+        let (labels, nodes) = (vec![0, 1], vec![(2, 0, 0), (1, 0, 0), (8, 1, 0)]);
         let last = Case {
             labels,
             nodes,

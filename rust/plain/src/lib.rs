@@ -1,5 +1,5 @@
-//! A checker of case files, written from document 01 and requests 2026-01, 2026-03 and 2026-04 alone,
-//! which docs/SPECIFICATION.md restates.
+//! A checker of case files, written from document 01 and requests 2026-01 and 2026-03 to
+//! 2026-05 alone, which docs/SPECIFICATION.md restates.
 //!
 //! It is the yardstick for the proved library: meant to be seen right, not to be fast, and to
 //! work by other means than the proved code wherever there is a choice.
@@ -13,6 +13,7 @@ mod case;
 mod free;
 mod judging;
 mod keyed;
+mod looks;
 mod meaning;
 mod merging;
 mod model;
@@ -23,7 +24,7 @@ mod rewriting;
 mod sets;
 mod vetting;
 
-pub use alike::classes;
+pub use alike::{alike, alike_in_full, classes, Relation};
 pub use all_functions::meaning_by_all_functions;
 pub use all_relations::classes_by_all_relations;
 pub use book::{Book, Edit};
@@ -31,7 +32,7 @@ pub use case::{pack, write, Case, Triple};
 pub use judging::{judge, starts_hold, Verdict};
 pub use meaning::{meaning, Meaning};
 pub use merging::merge;
-pub use node::{kinds, Shape};
+pub use node::{kinds, members, Shape};
 pub use refusal::Refusal;
 pub use rewriting::rewrite;
 pub use vetting::{open, parse, vet, PAIRS_LENGTH};

@@ -49,14 +49,15 @@ fn merged(case: &Case, kept: usize, removed: usize) -> Case {
 mod tests {
     use super::*;
 
-    /// 0 and 1 are alike, 2 is their successor; 3 has a step to each.
+    /// 0 and 1 are alike, 2 is their successor; 3 has a step to each. The rule looks at the three
+    /// actions and at no proposition.
     #[test]
     fn the_lower_state_stands_for_both() {
         let steps = [(0, 0, 2), (1, 0, 2), (3, 1, 0), (3, 1, 1), (3, 2, 2)];
         let case = Case {
-            labels: vec![1, 1, 2, 3],
+            labels: vec![1, 0, 2, 3],
             steps: steps.to_vec(),
-            nodes: vec![(5, 0, 0)],
+            nodes: vec![(13, 0b111, 0)],
             root: 0,
             starts: vec![1, 3],
         };

@@ -1,6 +1,6 @@
 //! A case made ready for its meaning: nodes, labels, and each state's successors.
 use crate::case::Case;
-use crate::node::Node;
+use crate::node::{members, Node};
 use crate::sets::Set;
 
 pub struct Model {
@@ -45,9 +45,8 @@ impl Model {
         &self.successors[state][usize::from(action)]
     }
 
-    /// Where the steps of the group's actions from the state go: bit i is action i.
+    /// Where the steps of the group's actions from the state go.
     pub fn successors_by(&self, state: usize, group: u8) -> impl Iterator<Item = usize> + '_ {
-        let actions = (0..8).filter(move |action| group >> action & 1 == 1);
-        actions.flat_map(move |action| self.successors(state, action).iter().copied())
+        members(group).flat_map(move |action| self.successors(state, action).iter().copied())
     }
 }

@@ -77,6 +77,11 @@ impl Shape {
     }
 }
 
+/// The actions of a group: bit i is action i.
+pub fn members(group: u8) -> impl Iterator<Item = u8> {
+    (0..8).filter(move |action| group >> action & 1 == 1)
+}
+
 /// One node. Named nodes are node numbers.
 #[derive(Clone, Copy, Debug, PartialEq, Eq)]
 pub enum Node {

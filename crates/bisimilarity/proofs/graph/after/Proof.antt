@@ -22,7 +22,7 @@ unfolding both
 returns c =
     let a = c .before .args in
     let h = c .before .pre .2 in
-    record { small = c .before .pre .0 .within (a .s) (a .a) h; is = λ t. rw (lt-ltb _ _ h) }
+    record { small = c .before .pre .0 .within (a .s) (a .a) h; is = λ t. rw (c .before .pre .3, lt-ltb _ _ h) }
 
 pub after-spec : {M : Type 1} → statement M
 after-spec = tie.close (tie.spec mul-at add-at mul-result element-copy-out-result returns)

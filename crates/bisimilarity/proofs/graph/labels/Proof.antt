@@ -2,6 +2,7 @@
 use borrow.Author.Needs.{needs}
 use Prim.Native.Nat.{_-_, _≤_}
 use native.Mathlib.Omega.{arith}
+use lib.Bits.{bitAnd}
 use lib.ListN.{getD, replicate}
 use Rattle.case_model.specs.Case.{read}
 use Rattle.case_model.specs.Areas.{Filled}
@@ -11,10 +12,10 @@ use Rattle.bisimilarity.proofs.graph.labels.Statement.{statement}
 use Rattle.bisimilarity.proofs.graph.labels.Tie as tie
 
 abbrev Inv-loop : tie.InvT-loop
-Inv-loop file table₀ s₀ table s = (s ≤ 16) × Filled (replicate 16 0) table 0 s (λ u. getD (read file .labels) u 0)
+Inv-loop file props table₀ s₀ table s = (s ≤ 16) × Filled (replicate 16 0) table 0 s (λ u. bitAnd (getD (read file .labels) u 0) props)
 
 abbrev μ-loop : tie.MeasureT-loop
-μ-loop file table₀ s₀ table s = 16 - s
+μ-loop file props table₀ s₀ table s = 16 - s
 
 loop-holds : tie.Need-loop-holds Inv-loop μ-loop
 loop-holds c = (omega arith, front-none _ _)
@@ -35,12 +36,12 @@ loop-less : tie.Need-loop-less Inv-loop μ-loop
 loop-less c = omega arith
 
 loop-again : tie.Need-loop-again Inv-loop μ-loop
-loop-again c = (omega arith, front-more (c .before .before .loop .inv .1) (c .before .loop-test .taken) (c .label .ensures .is))
+loop-again c = (omega arith, front-more (c .before .before .loop .inv .1) (c .before .loop-test .taken) (rw (c .label .ensures .is) (omega arith)))
 
 returns : tie.Need-returns Inv-loop μ-loop
 returns c =
     let start = c .before .before .before in
-    labels-filled (read (start .args .file .now) .labels) (c .before .loop .inv .1) (c .loop-test .left) (start .pre .few)
+    labels-filled (read (start .args .file .now) .labels) (start .args .props) (c .before .loop .inv .1) (c .loop-test .left) (start .pre .few)
 
 pub labels-spec : {M : Type 1} → statement M
 labels-spec =

@@ -2,7 +2,7 @@
 use native.Mathlib.Omega.{arith}
 use Rattle.case_plan.specs.Plans.{decoded}
 use Rattle.engine.proofs.Frames.{apart}
-use Rattle.engine.proofs.Plain.{here, done, atom-operand, atom-done, variable-low, variable-done, two-low, two-sets, no-binder}
+use Rattle.engine.proofs.Plain.{here, done, operand-fits, atom-done, variable-low, variable-done, two-low, two-sets, no-binder}
 use borrow.Author.Needs.{needs}
 use Rattle.engine.proofs.nodes.fill.Statement.{statement}
 use Rattle.engine.proofs.nodes.fill.Tie as tie
@@ -31,7 +31,7 @@ fill-atom-requires c κs =
     let at-node = at-kind-of .before .before in
     let st = at-node .before .before in
     let F = st .pre in
-    (F .sound .sized, atom-operand F (at-node .node .ensures) (at-kind-of .kind-of .ensures) (at-kind .kind .given .1), here F)
+    (F .sound .sized, operand-fits F (at-node .node .ensures) (at-kind-of .kind-of .ensures) (at-kind .kind .given .1), here F)
 
 enum-told : tie.Need-enum-told
 enum-told c = search needs

@@ -40,7 +40,7 @@ draw-requires : tie.Need-draw-requires
 draw-requires c κs =
     let c3 = c .before .before .before in
     let start = c3 .before in
-    accepted-valid standard _ (start .pre) .table
+    accepted-valid standard _ (start .pre)
 
 alike-rows-requires : tie.Need-alike-rows-requires
 alike-rows-requires c κs = search needs

@@ -2,7 +2,8 @@
 use mathlib.Core.Path.{refl}
 use native.Mathlib.Omega.{arith}
 use Rattle.tables.proofs.Sizes.{size-some}
-use Rattle.tables.proofs.Values.{operand-under, atom-holds, top-holds, bottom-holds, proposition-holds, complement-holds, tau-holds, action-holds}
+use Rattle.case_reader.proofs.Knowing.{operand-under}
+use Rattle.tables.proofs.Values.{atom-holds, top-holds, bottom-holds, proposition-holds, complement-holds, tau-holds, action-holds}
 use borrow.Author.Needs.{needs}
 use Rattle.tables.proofs.fill.fill_atom.Statement.{statement}
 use Rattle.tables.proofs.fill.fill_atom.Tie as tie

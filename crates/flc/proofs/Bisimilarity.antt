@@ -7,7 +7,7 @@ use lib.Dec.{T, eqb, eqb→eq, eqb-refl}
 use Rattle.flc.specs.Sets.{both, forSome, has, setOf}
 use Rattle.flc.specs.Functions.{Fun}
 use Rattle.flc.specs.Formula.{Table, actions}
-use Rattle.flc.specs.Bisimulation.{met, bisimulation, alike}
+use Rattle.flc.specs.Bisimulation.{met, matching, bisimilar}
 use Rattle.flc.proofs.Tests.{both-left, both-right, both-mk, implies-use, implies-mk, forAll-use, forAll-mk, forSome-use, forSome-mk}
 use Rattle.flc.proofs.Masks.{has-setOf, setOf-lt}
 use Rattle.flc.proofs.Order.{cut, cut-at, forSomeFun-use, forSomeFun-mk}
@@ -65,72 +65,72 @@ unfolding matched
 matched-mk L R s t P =
     both-mk _ _ (rw (P .labels) (eqb-refl (L .label t))) (both-mk _ _ (met-mk L R s t (P .forth)) (met-mk L (λ x y. R y x) t s (P .back)))
 
--- bisimulation
-pub bisimulation-use : (L : Table) → Acts L → (R : ℕ → ℕ → Bool) → T (bisimulation L R) → Bisim L L (Holds R)
-unfolding bisimulation matched
-bisimulation-use L A R h s t i j r =
+-- matching
+pub matching-use : (L : Table) → Acts L → (R : ℕ → ℕ → Bool) → T (matching L R) → Bisim L L (Holds R)
+unfolding matching matched
+matching-use L A R h s t i j r =
     matched-use L A R s t (implies-use _ _ (forAll-use (L .n) _ (forAll-use (L .n) _ h s i) t j) r)
 
-pub bisimulation-mk : (L : Table) (R : ℕ → ℕ → Bool) → Bisim L L (Holds R) → T (bisimulation L R)
-unfolding bisimulation matched
-bisimulation-mk L R h = forAll-mk (L .n) _ (λ s i. forAll-mk (L .n) _ (λ t j. implies-mk _ _ (λ r. matched-mk L R s t (h s t i j r))))
+pub matching-mk : (L : Table) (R : ℕ → ℕ → Bool) → Bisim L L (Holds R) → T (matching L R)
+unfolding matching matched
+matching-mk L R h = forAll-mk (L .n) _ (λ s i. forAll-mk (L .n) _ (λ t j. implies-mk _ _ (λ r. matched-mk L R s t (h s t i j r))))
 
 -- some bisimulation relates alike states
-pub alike-use : (L : Table) → Acts L → (s t : ℕ) → T (alike L s t) → (R : ℕ → ℕ → Bool) × Bisim L L (Holds R) × T (R s t)
-unfolding alike
-alike-use L A s t h =
+pub bisimilar-use : (L : Table) → Acts L → (s t : ℕ) → T (bisimilar L s t) → (R : ℕ → ℕ → Bool) × Bisim L L (Holds R) × T (R s t)
+unfolding bisimilar
+bisimilar-use L A s t h =
     let (f, u) = forSomeFun-use (L .n) (2 ^ L .n) _ h in
-    ((λ s t. has (f s) t), bisimulation-use L A (λ s t. has (f s) t) (both-left _ _ u), both-right _ _ u)
+    ((λ s t. has (f s) t), matching-use L A (λ s t. has (f s) t) (both-left _ _ u), both-right _ _ u)
 
 -- and whatever a bisimulation relates is alike: alike is larger than every bisimulation
-pub alike-mk : (L : Table) (R : ℕ → ℕ → Bool) → Bisim L L (Holds R) → (s t : ℕ) → s < L .n → t < L .n → T (R s t) → T (alike L s t)
-unfolding alike
-alike-mk L R B s t i j r =
+pub bisimilar-mk : (L : Table) (R : ℕ → ℕ → Bool) → Bisim L L (Holds R) → (s t : ℕ) → s < L .n → t < L .n → T (R s t) → T (bisimilar L s t)
+unfolding bisimilar
+bisimilar-mk L R B s t i j r =
     let f : Fun = λ s. setOf (L .n) (R s) in
     let c : Fun = cut (L .n) f in
     let e : (s t : ℕ) → s < L .n → t < L .n → has (c s) t ≡ R s t = λ s t i j. ap (λ x. has x t) (cut-at (L .n) f s i) ∙ has-setOf (L .n) (R s) t j in
     let C : Bisim L L (Holds (λ s t. has (c s) t)) = λ s t i j q.
     matched-rises L R (λ s t. has (c s) t) (λ s t i j. subst T (sym (e s t i j))) s t (B s t i j (subst T (e s t i j) q)) in
     forSomeFun-mk (L .n) (2 ^ L .n) _ f (λ s l. setOf-lt (L .n) (R s))
-    (both-mk _ _ (bisimulation-mk L (λ s t. has (c s) t) C) (subst T (sym (e s t i j)) r))
+    (both-mk _ _ (matching-mk L (λ s t. has (c s) t) C) (subst T (sym (e s t i j)) r))
 
 -- and it is one
-pub alike-bisim : (L : Table) → Acts L → Bisim L L (Holds (alike L))
-alike-bisim L A s t i j h =
-    let (R, B, r) = alike-use L A s t h in
-    matched-rises L R (alike L) (alike-mk L R B) s t (B s t i j r)
+pub bisimilar-bisim : (L : Table) → Acts L → Bisim L L (Holds (bisimilar L))
+bisimilar-bisim L A s t i j h =
+    let (R, B, r) = bisimilar-use L A s t h in
+    matched-rises L R (bisimilar L) (bisimilar-mk L R B) s t (B s t i j r)
 
 -- ---- an equivalence
-pub alike-refl : (L : Table) (s : ℕ) → s < L .n → T (alike L s s)
-alike-refl L s i = alike-mk L eqb same s s i i (eqb-refl s)
+pub bisimilar-refl : (L : Table) (s : ℕ) → s < L .n → T (bisimilar L s s)
+bisimilar-refl L s i = bisimilar-mk L eqb same s s i i (eqb-refl s)
   where
     same : Bisim L L (Holds eqb)
     same s t i j e =
         subst (Matched L L (Holds eqb) s) (eqb→eq s t e)
         (record { labels = refl; forth = λ a s′ k u. (s′, k, u, eqb-refl s′); back = λ a s′ k u. (s′, k, u, eqb-refl s′) })
 
-pub alike-sym : (L : Table) → Acts L → (s t : ℕ) → s < L .n → t < L .n → T (alike L s t) → T (alike L t s)
-alike-sym L A s t i j h =
-    alike-mk L (λ x y. alike L y x)
+pub bisimilar-sym : (L : Table) → Acts L → (s t : ℕ) → s < L .n → t < L .n → T (bisimilar L s t) → T (bisimilar L t s)
+bisimilar-sym L A s t i j h =
+    bisimilar-mk L (λ x y. bisimilar L y x)
     (λ x y k l u.
-    let P : Matched L L (Holds (alike L)) y x = alike-bisim L A y x l k u in
+    let P : Matched L L (Holds (bisimilar L)) y x = bisimilar-bisim L A y x l k u in
     record { labels = sym (P .labels); forth = P .back; back = P .forth })
     t s j i h
 
-pub alike-trans : (L : Table) → Acts L → (s t u : ℕ) → s < L .n → t < L .n → u < L .n → T (alike L s t) → T (alike L t u) → T (alike L s u)
-alike-trans L A s t u i j k g h = alike-mk L through composed s u i k (join s t u j g h)
+pub bisimilar-trans : (L : Table) → Acts L → (s t u : ℕ) → s < L .n → t < L .n → u < L .n → T (bisimilar L s t) → T (bisimilar L t u) → T (bisimilar L s u)
+bisimilar-trans L A s t u i j k g h = bisimilar-mk L through composed s u i k (join s t u j g h)
   where
     through : ℕ → ℕ → Bool
-    through x z = forSome (L .n) (λ y. both (alike L x y) (alike L y z))
+    through x z = forSome (L .n) (λ y. both (bisimilar L x y) (bisimilar L y z))
 
-    join : (x y z : ℕ) → y < L .n → T (alike L x y) → T (alike L y z) → T (through x z)
+    join : (x y z : ℕ) → y < L .n → T (bisimilar L x y) → T (bisimilar L y z) → T (through x z)
     join x y z j g h = forSome-mk (L .n) _ y j (both-mk _ _ g h)
 
     composed : Bisim L L (Holds through)
     composed x z i k e =
         let (y, j, v) = forSome-use (L .n) _ e in
-        let P : Matched L L (Holds (alike L)) x y = alike-bisim L A x y i j (both-left _ _ v) in
-        let Q : Matched L L (Holds (alike L)) y z = alike-bisim L A y z j k (both-right _ _ v) in
+        let P : Matched L L (Holds (bisimilar L)) x y = bisimilar-bisim L A x y i j (both-left _ _ v) in
+        let Q : Matched L L (Holds (bisimilar L)) y z = bisimilar-bisim L A y z j k (both-right _ _ v) in
         record {
           labels = P .labels ∙ Q .labels;
           forth = λ a x′ l w.
@@ -148,12 +148,12 @@ unfoldable pub refine : Table → (ℕ → ℕ → Bool) → ℕ → ℕ → Boo
 refine L R s t = both (R s t) (matched L R s t)
 
 -- no alike pair is ever dropped
-pub refine-keeps : (L : Table) → Acts L → (R : ℕ → ℕ → Bool) → Within L (alike L) R → Within L (alike L) (refine L R)
+pub refine-keeps : (L : Table) → Acts L → (R : ℕ → ℕ → Bool) → Within L (bisimilar L) R → Within L (bisimilar L) (refine L R)
 unfolding refine
 refine-keeps L A R h s t i j u =
-    both-mk _ _ (h s t i j u) (matched-mk L R s t (matched-rises L (alike L) R h s t (alike-bisim L A s t i j u)))
+    both-mk _ _ (h s t i j u) (matched-mk L R s t (matched-rises L (bisimilar L) R h s t (bisimilar-bisim L A s t i j u)))
 
 -- where nothing is dropped any more, what is left is alike
-pub refine-stands : (L : Table) → Acts L → (R : ℕ → ℕ → Bool) → Within L R (refine L R) → Within L R (alike L)
+pub refine-stands : (L : Table) → Acts L → (R : ℕ → ℕ → Bool) → Within L R (refine L R) → Within L R (bisimilar L)
 unfolding refine
-refine-stands L A R h = alike-mk L R (λ s t i j r. matched-use L A R s t (both-right _ _ (h s t i j r)))
+refine-stands L A R h = bisimilar-mk L R (λ s t i j r. matched-use L A R s t (both-right _ _ (h s t i j r)))
