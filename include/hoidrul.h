@@ -97,8 +97,8 @@ uint64_t hoidrul_judge(const uint8_t *file, size_t len, uint16_t set, uint16_t *
  * those behind stay as they were. Refusal 13 if the area is shorter than the result. */
 
 /* Classes: one byte a state, the lowest state alike to it. States are alike if a bisimulation relates them, which compares
- * only as far as the rule looks: the propositions, and the steps of the actions, in nodes that the root reaches, where a
- * group counts with all its actions. Refusals: 1 to 7, 13. */
+ * only as far as the rule looks: the propositions, and the steps of the actions, in nodes that the root reaches; of a group,
+ * those of each action in it. Refusals: 1 to 7, 13. */
 uint64_t hoidrul_classes(const uint8_t *file, size_t len, uint8_t *out, size_t room);
 
 /* Merging states s and t, in either order: the packed file of the case in which the lower stands for both, also in the

@@ -7,7 +7,7 @@ use Prim.Native.Nat.{ℕ, _+_, _*_, _≤_, _<_}
 use native.Mathlib.Decide.{decLt}
 use native.Mathlib.Omega.{arith}
 use borrow.Author.Tests.{lt-ltb, le-ltb}
-use lib.Bits.{bitAnd, and-le-l}
+use lib.Bits.{bitAnd, and-zero-l}
 use lib.Dec.{ltb}
 use lib.ListN.{length, getD, replicate, List·getD-eq-default}
 use lib.Pow.{pow-mono}
@@ -34,7 +34,7 @@ labels-filled {table = table} l props f h few u = elim (decLt u 16) [
   | yes q ↦ front-at f u (omega arith)
   | no q ↦
       List·getD-eq-default table 0 {n = u} (omega (arith, f .long))
-      ∙ sym (ap (λ x. bitAnd x props) (List·getD-eq-default l 0 {n = u} (omega arith)) ∙ omega (arith, and-le-l 0 props))
+      ∙ sym (ap (λ x. bitAnd x props) (List·getD-eq-default l 0 {n = u} (omega arith)) ∙ and-zero-l props)
 ]
 
 module _ {c : Case} (valid : ValidTable mostStates c) (g : Graph)

@@ -4,7 +4,7 @@ use Prim.Native.Nat.{ℕ, suc}
 use mathlib.Core.List.{List, [], _∷_, _++_}
 use mathlib.Core.Path.{_≡_, refl}
 use lib.ListN.{replicate, set}
-use Rattle.flc.specs.Sets.{both, either, implies, forAll, forSome, first, has}
+use Rattle.flc.specs.Sets.{both, either, implies, forAll, forSome, first, has, setOf}
 use Rattle.flc.specs.Functions.{forAllFun, forSomeFun}
 use Rattle.flc.specs.Formula.{free}
 use Rattle.flc.specs.Nodes.{lower, formulaAt}
@@ -75,27 +75,27 @@ merges :
     (merging F 0 2 55 ≡ refuses 8 0)
     × (merging F 0 1 55 ≡ refuses 10 0)
     × (merging F 1 1 55 ≡ refuses 10 0)
-    × (merging (startingAt (0 ∷ 1 ∷ []) (5 ∷ 5 ∷ []) ((0, 3, 1) ∷ (1, 3, 1) ∷ []) ((5, 0, 0) ∷ []) 0) 1 0 99
-    ≡ answers (startingAt (0 ∷ []) (5 ∷ []) ((0, 3, 0) ∷ []) ((5, 0, 0) ∷ []) 0))
+    × (merging (startingAt (0 ∷ 1 ∷ []) (5 ∷ 5 ∷ []) ((0, 3, 1) ∷ (1, 3, 1) ∷ []) ((6, 3, 0) ∷ []) 0) 1 0 99
+    ≡ answers (startingAt (0 ∷ []) (5 ∷ []) ((0, 3, 0) ∷ []) ((6, 3, 0) ∷ []) 0))
 unfolding merging merge moved movedSteps selected inOrder isIn
-    alike looked vocabulary reduct bisimilar matching met forSomeFun forAllFun implies has table listed
+    alike looked vocabulary reduct bisimilar matching met forSomeFun forAllFun implies has setOf table listed
     write packed refusals pairsHold chained padding section
     listOf lowest first forAll forSome both either rootClosed rule formulaAt lower nodeAt kindAt kinds free
 merges = (refl, refl, refl, refl)
 
--- two states without common steps, of which state 0 alone has proposition 7, and a rule
+-- two states, of which state 0 alone has proposition 7, with these steps, nodes and root
 abbrev lamp : List Triple → List Triple → ℕ → List ℕ
 lamp s n r = caseOf (129 ∷ 1 ∷ []) s n r
 
 -- alike as far as the rule looks: neither a proposition nor an action is compared that stands in no node, or only in one that the root does not reach. The
--- kept label is whole, and steps of every action are moved or gone; what stands in a complement or in a group is compared, as its highest action is
+-- kept label is whole, and steps of every action are moved or gone. A proposition in a complement is compared, and each action of a group, the highest too
 looks :
     (merging (lamp ((0, 7, 1) ∷ (1, 6, 1) ∷ []) ((2, 0, 0) ∷ (2, 7, 0) ∷ (14, 192, 0) ∷ []) 0) 0 1 99
     ≡ answers (caseOf (129 ∷ []) ((0, 7, 0) ∷ []) ((2, 0, 0) ∷ (2, 7, 0) ∷ (14, 192, 0) ∷ []) 0))
     × (merging (lamp [] ((3, 7, 0) ∷ []) 0) 0 1 99 ≡ refuses 10 0)
     × (merging (lamp ((0, 7, 0) ∷ []) ((13, 129, 0) ∷ []) 0) 0 1 99 ≡ refuses 10 0)
 unfolding merging merge moved movedSteps selected inOrder isIn
-    alike looked vocabulary reduct bisimilar matching met forSomeFun forAllFun implies has table listed
+    alike looked vocabulary reduct bisimilar matching met forSomeFun forAllFun implies has setOf table listed
     write packed refusals pairsHold chained padding section
     listOf lowest first forAll forSome both either rootClosed rule formulaAt lower nodeAt kindAt kinds free
 looks = (refl, refl, refl)

@@ -3,14 +3,14 @@
 use Prim.Native.Nat.{ℕ, zero, suc, _<_}
 use mathlib.Core.Bool.{Bool, true, false}
 use mathlib.Core.Logic.{_⊎_, inl, inr, _↔_}
-use mathlib.Core.Path.{_≡_, refl, sym, subst}
+use mathlib.Core.Path.{_≡_, refl, subst}
 use native.Mathlib.Nat.{not-suc-le-zero}
 use native.Mathlib.Omega.{arith}
 use lib.Dec.{T, eqb→eq, eqb-refl}
 use Rattle.flc.specs.Sets.{either, has, singleton}
-use Rattle.flc.specs.Formula.{Op, Formula, op}
+use Rattle.flc.specs.Formula.{Formula}
 use Rattle.flc.specs.Nodes.{Node, leaf, two, bind, Names, tree, formulaAt}
-use Rattle.flc.specs.Vocabulary.{Vocabulary, onlyProps, onlyActs, vocabulary}
+use Rattle.flc.specs.Vocabulary.{Vocabulary, nothing, onlyProps, onlyActs, union, vocabulary}
 use Rattle.flc.proofs.Tests.{either-use, either-left, either-right}
 use Rattle.flc.proofs.Masks.{has-or, has-empty, has-single}
 use Rattle.flc.proofs.Unfolding.{Lower, formulaAt-node}
@@ -28,13 +28,11 @@ part true W = W .props
 part false W = W .acts
 
 -- ---- one layer of a tree
-has-op : (b : Bool) (o : Op) (p q : Formula) (x : ℕ)
-    → has (part b (vocabulary (op o p q))) x ≡ either (has (part b (vocabulary p)) x) (has (part b (vocabulary q)) x)
-unfolding vocabulary
-has-op true o p q x = has-or _ _ x
-has-op false o p q x = has-or _ _ x
+pub has-union : (b : Bool) (U W : Vocabulary) (x : ℕ) → has (part b (union U W)) x ≡ either (has (part b U) x) (has (part b W) x)
+has-union true U W x = has-or _ _ x
+has-union false U W x = has-or _ _ x
 
-pub none-has : (b : Bool) (x : ℕ) → T (has (part b (onlyProps 0)) x) → ⊥
+pub none-has : (b : Bool) (x : ℕ) → T (has (part b nothing) x) → ⊥
 none-has true x u = subst T (has-empty x) u
 none-has false x u = subst T (has-empty x) u
 
@@ -43,7 +41,8 @@ tree-use : (b : Bool) (n : Node) (φ : ℕ → Formula) (x : ℕ) → T (has (pa
     → T (has (part b (own n)) x) ⊎ ((i : ℕ) × Names n i × T (has (part b (vocabulary (φ i))) x))
 tree-use b (leaf p) φ x u = inl u
 tree-use b (two o i j) φ x u =
-    either-use _ _ (λ v. inr (i, inl refl, v)) (λ v. inr (j, inr refl, v)) (subst T (has-op b o (φ i) (φ j) x) u)
+    either-use _ _ (λ v. inr (i, inl refl, v)) (λ v. inr (j, inr refl, v))
+    (subst T (has-union b (vocabulary (φ i)) (vocabulary (φ j)) x) (unfold vocabulary in u))
 tree-use b (bind d v j) φ x u = inr (j, refl, unfold vocabulary in u)
 
 tree-own : (b : Bool) (n : Node) (φ : ℕ → Formula) (x : ℕ) → T (has (part b (own n)) x) → T (has (part b (vocabulary (tree n φ))) x)
@@ -52,10 +51,13 @@ tree-own b (two o i j) φ x u = absurd (none-has b x u)
 tree-own b (bind d v j) φ x u = absurd (none-has b x u)
 
 tree-named : (b : Bool) (n : Node) (φ : ℕ → Formula) (x i : ℕ) → Names n i → T (has (part b (vocabulary (φ i))) x) → T (has (part b (vocabulary (tree n φ))) x)
+unfolding vocabulary
 tree-named b (leaf p) φ x i e u = absurd e
-tree-named b (two o j k) φ x i (inl e) u = subst T (sym (has-op b o (φ j) (φ k) x)) (either-left _ _ (subst (λ j. T (has (part b (vocabulary (φ j))) x)) e u))
-tree-named b (two o j k) φ x i (inr e) u = subst T (sym (has-op b o (φ j) (φ k) x)) (either-right _ _ (subst (λ j. T (has (part b (vocabulary (φ j))) x)) e u))
-tree-named b (bind d v j) φ x i e u = unfold vocabulary in subst (λ j. T (has (part b (vocabulary (φ j))) x)) e u
+tree-named b (two o j k) φ x i (inl e) u = rw (has-union b (vocabulary (φ j)) (vocabulary (φ k)) x)
+    (either-left _ _ (subst (λ j. T (has (part b (vocabulary (φ j))) x)) e u))
+tree-named b (two o j k) φ x i (inr e) u = rw (has-union b (vocabulary (φ j)) (vocabulary (φ k)) x)
+    (either-right _ _ (subst (λ j. T (has (part b (vocabulary (φ j))) x)) e u))
+tree-named b (bind d v j) φ x i e u = subst (λ j. T (has (part b (vocabulary (φ j))) x)) e u
 
 -- ---- from the root down
 module _ (N : ℕ → Node) (low : (j : ℕ) → Lower N j) (b : Bool) (x : ℕ) where
@@ -87,7 +89,7 @@ module _ (N : ℕ → Node) (low : (j : ℕ) → Lower N j) (b : Bool) (x : ℕ)
 -- ---- by the numbers of the kinds
 -- what a triple looks at by its kind k and operand a: nothing, the proposition a, or a group
 data Sight (k a : ℕ) : Vocabulary → Type 0 where
-  blind : Sight k a (onlyProps 0)
+  blind : Sight k a nothing
   proposition : (k ≡ 2) ⊎ (k ≡ 3) → Sight k a (onlyProps (singleton a))
   group : (d : Bool) (g : ℕ) → Modal k a d g → Sight k a (onlyActs g)
 

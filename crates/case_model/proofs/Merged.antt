@@ -1,5 +1,5 @@
 -- The case that merging r into k makes: its states, labels and steps, that it is valid again, and what it keeps where the two states are alike.
--- A state is related to each state of the new case that stays alike to it: that is a bisimulation between the two tables.
+-- A state is related to each state of the new case that stays alike to it: that is a bisimulation between the reducts of the two tables.
 use Prim.Native.Nat.{ℕ, suc, _+_, _-_, _^_, _≤_, _<_}
 use mathlib.Core.Bool.{Bool, false}
 use mathlib.Core.List.{List, _++_}
@@ -43,7 +43,7 @@ unfoldable pub carried : Case → ℕ → ℕ → ℕ
 carried c r x = setOf (length (c .labels) - 1) (λ u. has x (stays r u))
 
 -- the table of a valid case has steps of actions 0 to 7 only
-pub valid-acts : {most : ℕ} {c : Case} → ValidTable most c → Acts (table c)
+valid-acts : {most : ℕ} {c : Case} → ValidTable most c → Acts (table c)
 unfolding table
 valid-acts valid s a t h = listed-in valid s a t h .action
 

@@ -67,6 +67,11 @@ fits-free w h _ (fits-binder d v b p q) φ f t = f b (both-right _ _ t)
 bind-binds : (t : Triple) (d : Bool) (v b : ℕ) → nodeOf t ≡ bind d v b → binds t v ≡ true
 bind-binds t d v b e = rw (ap isBinder e) (eq-eqb (t .1) v (bind-operands t e .0))
 
+-- what is reached from a root is not above it, if no node up to it names a higher one
+pub reached-under : {N : ℕ → Node} {root : ℕ} → ((i : ℕ) → i ≤ root → Lower N i) → (j : ℕ) → Reached N root j → j ≤ root
+reached-under low _ the-root = omega arith
+reached-under low j (named {i} r e) = let l = reached-under low i r in omega (arith, low i l j e)
+
 module _ {c : Case} (valid : ValidRule c) where
   pub node-fits : (j : ℕ) → j < length (c .nodes) → Fits j (nodeAt c j)
   unfolding nodeAt
@@ -84,9 +89,8 @@ module _ {c : Case} (valid : ValidRule c) where
   ]
 
   -- so what is reached is not above the root
-  pub reached-low : (j : ℕ) → Reached (nodeAt c) (c .root) j → j < suc (c .root)
-  reached-low _ the-root = omega arith
-  reached-low j (named {i} r e) = omega (arith, all-lower i j e, reached-low i r)
+  pub reached-low : (j : ℕ) → Reached (nodeAt c) (c .root) j → j ≤ c .root
+  reached-low = reached-under (λ i _. all-lower i)
 
   -- no two binders of one variable
   apart : (i j v : ℕ) → i < j → j < length (c .nodes) → binds (at (c .nodes) i) v ≡ true → binds (at (c .nodes) j) v ≡ true → ⊥

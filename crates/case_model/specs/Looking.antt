@@ -6,17 +6,17 @@ use mathlib.Core.Path.{_≡_}
 use lib.Dec.{T}
 use Rattle.flc.specs.Sets.{has}
 use Rattle.flc.specs.Nodes.{Node, leaf, two, bind}
-use Rattle.flc.specs.Vocabulary.{Vocabulary, onlyProps, vocabulary}
+use Rattle.flc.specs.Vocabulary.{Vocabulary, nothing, vocabulary}
 use Rattle.case_model.specs.Kinds.{Triple}
 use Rattle.case_model.specs.Case.{Case, at, nodeAt, rule}
 use Rattle.case_model.specs.Reach.{Reached}
 use Rattle.case_model.specs.ModalKinds.{Modal}
 
--- what a node looks at by itself
+-- clause 4.9: what a node looks at by itself
 abbrev pub own : Node → Vocabulary
 own (leaf p) = vocabulary p
-own (two o a b) = onlyProps 0
-own (bind d v b) = onlyProps 0
+own (two o a b) = nothing
+own (bind d v b) = nothing
 
 -- clause 4.9: the tree of the rule has the nodes that the root reaches, and no other
 unfoldable pub looked : Case → Vocabulary

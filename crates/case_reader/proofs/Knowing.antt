@@ -1,13 +1,15 @@
 -- What a triple is by the number that was compared, a line of the table or past its end; and by the kind that was found, with the ranges of its operands.
 -- Equations of the table's lines.
-use Prim.Native.Nat.{ℕ, suc, _≤_, _<_}
+use Prim.Native.Nat.{ℕ, suc, _*_, _%_, _^_, _≤_, _<_}
 use mathlib.Core.Bool.{true, _&&_}
 use mathlib.Core.Path.{_≡_, refl, sym, ap, _∙_, subst}
 use native.Mathlib.Decide.{ℕ-discrete}
+use native.Mathlib.Nat.{one-mul, mod-eq-of-lt}
 use native.Mathlib.Omega.{arith}
 use borrow.Author.Tests.{ltb-true}
 use lib.Dec.{ltb}
 use lib.ListN.{length, List·getD-eq-default}
+use lib.Pow.{pow-lt}
 use Rattle.flc.specs.Formula.{atom, bottom}
 use Rattle.flc.specs.Nodes.{Node}
 use Rattle.case_model.specs.Kinds as table
@@ -60,3 +62,9 @@ module _ (j : ℕ) (t : Triple) {k : Kind} (e : lineOf k ≡ kindAt (t .0)) (h :
 -- once the atom is known, so is the range of its operand
 pub operand-under : {x x′ : Atom} (a : ℕ) {n : ℕ} → x ≡ x′ → ((i : ℕ) → fits (operandOf x) i a ≡ true) → operandOf x′ ≡ under n → a < n
 operand-under a {n} q h e = ltb-true a n (ap (λ (o : Operand). fits o 0 a) (sym (ap operandOf q ∙ e)) ∙ h 0)
+
+-- a shift by it makes the set of one
+pub shifted : (a : ℕ) → a < 8 → 1 * 2 ^ a % 2 ^ 64 ≡ 2 ^ a
+shifted a h =
+    let small : 2 ^ a < 2 ^ 64 = pow-lt {j = 64} (omega arith) in
+    simp (one-mul, mod-eq-of-lt small)

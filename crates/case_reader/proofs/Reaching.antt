@@ -158,7 +158,9 @@ module _ {c : Case} (valid : ValidRule c) where
 
   complete : (j : ℕ) → Reached (nodeAt c) (c .root) j → T (has (spread (nodeAt c) turns start) j)
   complete _ the-root = spread-keeps (nodeAt c) turns start (c .root) (with-in 0 (c .root) root-place)
-  complete j (named {i} r e) = spread-closed (nodeAt c) (all-lower valid) turns start i (reached-low valid i r) (complete i r) j (place j (named r e)) e
+  complete j (named {i} r e) =
+      let low : i < turns = omega (arith, reached-low valid i r) in
+      spread-closed (nodeAt c) (all-lower valid) turns start i low (complete i r) j (place j (named r e)) e
 
   pub reach-set : ReachSet c (spread (nodeAt c) (suc (c .root)) (withNode 0 (c .root)))
   reach-set = record { is = λ j h. (sound j, complete j) }

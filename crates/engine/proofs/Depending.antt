@@ -14,6 +14,7 @@ use Rattle.flc.specs.Nodes.{Node, leaf, two, bind, formulaAt, Names}
 use Rattle.flc.proofs.Tests.{both-mk, either-left, either-right}
 use Rattle.case_model.specs.Limits.{variables}
 use Rattle.case_model.specs.Reach.{Reached, the-root, named}
+use Rattle.case_model.proofs.Nodes.{reached-under}
 use Rattle.case_plan.specs.Plans.{Plan, nodesOf, Within, Sound}
 use Rattle.case_plan.proofs.Scopes.{node-lower, scope-frees, scope-exact}
 use Rattle.engine.specs.Dependence.{Depends, outer, inner}
@@ -28,10 +29,7 @@ module _ {p : Plan} (S : Sound p) where
 
   -- what is reached is not above the root
   pub reached-low : (i : ℕ) → Met i → i ≤ p .root
-  reached-low _ the-root = omega arith
-  reached-low _ (named {i} {j} r n) =
-      let l = reached-low i r in
-      omega (arith, node-lower S i (omega (arith, S .root)) j n)
+  reached-low = reached-under (λ i h. node-lower S i (omega (arith, S .root)))
 
   pub reached-there : (i : ℕ) → Met i → i < p .count
   reached-there i r = omega (arith, reached-low i r, S .root)

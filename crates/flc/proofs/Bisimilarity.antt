@@ -1,4 +1,4 @@
--- Alike states: what the test says, that it is an equivalence and the largest bisimulation, and how the classes are found.
+-- Bisimilar states of a table: what the test says, that it is an equivalence and the largest bisimulation, and how the classes are found.
 -- Bisimulations are closed under union, converse and composition; pairs that are not met are dropped until none is.
 use mathlib.Core.Path.{_≡_, refl, sym, ap, _∙_, subst}
 use mathlib.Core.Bool.{Bool}
@@ -75,14 +75,14 @@ pub matching-mk : (L : Table) (R : ℕ → ℕ → Bool) → Bisim L L (Holds R)
 unfolding matching matched
 matching-mk L R h = forAll-mk (L .n) _ (λ s i. forAll-mk (L .n) _ (λ t j. implies-mk _ _ (λ r. matched-mk L R s t (h s t i j r))))
 
--- some bisimulation relates alike states
-pub bisimilar-use : (L : Table) → Acts L → (s t : ℕ) → T (bisimilar L s t) → (R : ℕ → ℕ → Bool) × Bisim L L (Holds R) × T (R s t)
+-- some bisimulation relates bisimilar states
+bisimilar-use : (L : Table) → Acts L → (s t : ℕ) → T (bisimilar L s t) → (R : ℕ → ℕ → Bool) × Bisim L L (Holds R) × T (R s t)
 unfolding bisimilar
 bisimilar-use L A s t h =
     let (f, u) = forSomeFun-use (L .n) (2 ^ L .n) _ h in
     ((λ s t. has (f s) t), matching-use L A (λ s t. has (f s) t) (both-left _ _ u), both-right _ _ u)
 
--- and whatever a bisimulation relates is alike: alike is larger than every bisimulation
+-- and whatever a bisimulation relates is bisimilar: that is larger than every bisimulation
 pub bisimilar-mk : (L : Table) (R : ℕ → ℕ → Bool) → Bisim L L (Holds R) → (s t : ℕ) → s < L .n → t < L .n → T (R s t) → T (bisimilar L s t)
 unfolding bisimilar
 bisimilar-mk L R B s t i j r =
@@ -147,13 +147,13 @@ bisimilar-trans L A s t u i j k g h = bisimilar-mk L through composed s u i k (j
 unfoldable pub refine : Table → (ℕ → ℕ → Bool) → ℕ → ℕ → Bool
 refine L R s t = both (R s t) (matched L R s t)
 
--- no alike pair is ever dropped
+-- no bisimilar pair is ever dropped
 pub refine-keeps : (L : Table) → Acts L → (R : ℕ → ℕ → Bool) → Within L (bisimilar L) R → Within L (bisimilar L) (refine L R)
 unfolding refine
 refine-keeps L A R h s t i j u =
     both-mk _ _ (h s t i j u) (matched-mk L R s t (matched-rises L (bisimilar L) R h s t (bisimilar-bisim L A s t i j u)))
 
--- where nothing is dropped any more, what is left is alike
+-- where nothing is dropped any more, what is left is bisimilar
 pub refine-stands : (L : Table) → Acts L → (R : ℕ → ℕ → Bool) → Within L R (refine L R) → Within L R (bisimilar L)
 unfolding refine
 refine-stands L A R h = bisimilar-mk L R (λ s t i j r. matched-use L A R s t (both-right _ _ (h s t i j r)))

@@ -18,7 +18,7 @@ use Rattle.flc.proofs.Bisimilarity.{Acts, Holds, matching-use, matching
 use Rattle.flc.proofs.Bisimilarity.{bisimilar-refl, bisimilar-sym, bisimilar-trans}
 
 -- a reduct has no step that the table has not
-pub reduct-acts : (W : Vocabulary) (L : Table) → Acts L → Acts (reduct W L)
+reduct-acts : (W : Vocabulary) (L : Table) → Acts L → Acts (reduct W L)
 unfolding reduct
 reduct-acts W L A s a t u = A s a t (both-right _ _ u)
 

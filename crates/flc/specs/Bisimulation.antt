@@ -13,13 +13,13 @@ unfoldable pub met : Table → (ℕ → ℕ → Bool) → ℕ → ℕ → Bool
 met L R s t =
     forAll actions (λ a. forAll (L .n) (λ s′. implies (L .step s a s′) (forSome (L .n) (λ t′. both (L .step t a t′) (R s′ t′)))))
 
--- related states have the same label, and both ways hold of them
+-- clause 4.1, of the table as it is: related states have the same label, and both ways hold of them
 unfoldable pub matching : Table → (ℕ → ℕ → Bool) → Bool
 matching L R =
     forAll (L .n) (λ s. forAll (L .n) (λ t. implies (R s t)
     (both (eqb (L .label s) (L .label t)) (both (met L R s t) (met L (λ x y. R y x) t s)))))
 
--- some such relation relates s and t. A relation is a function from states to sets of states
+-- clause 4.2, likewise: some such relation relates s and t. A relation is a function from states to sets of states
 unfoldable pub bisimilar : Table → ℕ → ℕ → Bool
 bisimilar L s t =
     forSomeFun (L .n) (2 ^ L .n) (λ f. both (matching L (λ s t. has (f s) t)) (has (f s) t))

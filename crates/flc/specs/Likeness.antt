@@ -10,16 +10,16 @@ use Rattle.flc.specs.Order.{GoodEnv}
 use Rattle.flc.specs.Vocabulary.{Vocabulary, vocabulary, Included}
 use Rattle.flc.specs.Bisimulation.{bisimilar, bisimulation, alike}
 
--- alike states are in the set x or neither is
+-- clause 4.10: of alike states the set x has both or neither
 abbrev pub UnionOfClasses : Vocabulary → Table → ℕ → Type 0
 UnionOfClasses W L x = (s t : ℕ) → s < L .n → t < L .n → T (alike W L s t) → has x s ≡ has x t
 
--- f takes unions of classes to such
+-- clause 4.10: f takes unions of classes to unions of classes
 abbrev pub KeepsClasses : Vocabulary → Table → Fun → Type 0
 KeepsClasses W L f = (x : ℕ) → x < 2 ^ L .n → UnionOfClasses W L x → UnionOfClasses W L (f x)
 
 -- clause 4.10: being alike is an equivalence and the largest bisimulation; states that are bisimilar in the whole table are alike; and a rule
--- that looks no further than W takes unions of classes to such
+-- that looks no further than W keeps unions of classes, if what its variables stand for does
 pub record Likeness (W : Vocabulary) (L : Table) : Type 0 where
   pub reflexive : (s : ℕ) → s < L .n → T (alike W L s s)
   pub symmetric : (s t : ℕ) → s < L .n → t < L .n → T (alike W L s t) → T (alike W L t s)

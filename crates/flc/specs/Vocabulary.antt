@@ -1,4 +1,4 @@
--- What a rule looks at, and what is left of a state table if nothing else is: docs/SPECIFICATION.md, clauses 4.1 and 4.9.
+-- What a rule looks at, and what is left of a state table if nothing else counts: docs/SPECIFICATION.md, clauses 4.1, 4.9 and 4.10.
 use Prim.Native.Nat.{ℕ}
 use lib.Bits.{bitAnd, bitOr}
 use lib.Dec.{T}
@@ -9,6 +9,10 @@ use Rattle.flc.specs.Formula.{Table, Formula, top, bottom, tau, prop, np
 pub record Vocabulary : Type 0 where
   pub props : ℕ
   pub acts : ℕ
+
+-- neither; propositions alone, actions alone; what either of two has
+abbrev pub nothing : Vocabulary
+nothing = record { props = 0; acts = 0 }
 
 abbrev pub onlyProps : ℕ → Vocabulary
 onlyProps x = record { props = x; acts = 0 }
@@ -21,17 +25,17 @@ union U W = record { props = bitOr (U .props) (W .props); acts = bitOr (U .acts)
 
 -- clause 4.9: what a rule looks at: a proposition where it or its complement stands, an action where a group stands that has it
 unfoldable pub vocabulary : Formula → Vocabulary
-vocabulary (atom top) = onlyProps 0
-vocabulary (atom bottom) = onlyProps 0
-vocabulary (atom tau) = onlyProps 0
+vocabulary (atom top) = nothing
+vocabulary (atom bottom) = nothing
+vocabulary (atom tau) = nothing
 vocabulary (atom (prop i)) = onlyProps (singleton i)
 vocabulary (atom (nprop i)) = onlyProps (singleton i)
 vocabulary (atom (modal d g)) = onlyActs g
-vocabulary (var v) = onlyProps 0
+vocabulary (var v) = nothing
 vocabulary (op o p q) = union (vocabulary p) (vocabulary q)
 vocabulary (fix d v p) = vocabulary p
 
--- what U has W has too
+-- clause 4.10: U looks no further than W: what it has, W has too
 pub record Included (U W : Vocabulary) : Type 0 where
   pub props : (i : ℕ) → T (has (U .props) i) → T (has (W .props) i)
   pub acts : (a : ℕ) → T (has (U .acts) a) → T (has (W .acts) a)

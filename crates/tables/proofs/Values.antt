@@ -4,9 +4,6 @@ use Prim.Native.Nat.{ℕ, _-_, _*_, _%_, _^_, _<_}
 use mathlib.Core.Bool.{Bool}
 use mathlib.Core.List.{List}
 use mathlib.Core.Path.{_≡_, sym, ap, ap₂, _∙_, subst}
-use native.Mathlib.Nat.{one-mul, mod-eq-of-lt}
-use native.Mathlib.Omega.{arith}
-use lib.Pow.{pow-lt}
 use Rattle.flc.specs.Formula.{modal, meanAtom}
 use Rattle.flc.proofs.Masks.{setOf-none}
 use Rattle.case_model.specs.Areas.{Filled}
@@ -15,6 +12,7 @@ use Rattle.case_reader.specs.declared.kinds.Atom.{Atom}
 use Rattle.case_reader.specs.declared.kinds.Atom.the-variants as atoms
 use Rattle.case_reader.specs.declared.kinds.Operator.{Operator}
 use Rattle.case_reader.specs.NodeKinds.{atomWith, opOf}
+use Rattle.case_reader.proofs.Knowing.{shifted}
 use Rattle.case_plan.specs.Plans.{Plan, Sized}
 use Rattle.tables.specs.Tables.{AtomFilled, OperatorFilled}
 use Rattle.tables.proofs.Sizes.{set-all, set-rest, props-are}
@@ -47,9 +45,7 @@ module _ {p : Plan} (z : Sized p) {w v : List ℕ} (a : ℕ) {base : ℕ} {x : A
 
   -- the group of one action, by a shift
   pub action-holds : {d : Bool} → x ≡ atoms.Action d → a < 8 → AtomFilled p w v base (modal d (1 * 2 ^ a % 2 ^ 64)) → AtomFilled p w v base (atomWith x a)
-  action-holds {d} q l S =
-      let small : 2 ^ a < 2 ^ 64 = pow-lt {j = 64} (omega arith) in
-      atom-holds q (subst (λ g. AtomFilled p w v base (modal d g)) (simp (one-mul, mod-eq-of-lt small)) S)
+  action-holds {d} q l S = atom-holds q (subst (λ g. AtomFilled p w v base (modal d g)) (shifted a l) S)
 
 -- ---- operators
 pub operator-holds : {w v : List ℕ} {size : ℕ} (left right : ℕ) {base : ℕ} {o o′ : Operator} → o ≡ o′

@@ -1,27 +1,26 @@
 -- What the nodes that the root reaches look at, gathered one after the other, is what the rule looks at.
 -- Both have the same members: each occurs in a node that is reached.
-use Prim.Native.Nat.{ℕ, zero, suc, _%_, _*_, _^_, _<_}
+use Prim.Native.Nat.{ℕ, zero, suc, _<_}
 use mathlib.Core.Bool.{Bool, true, false}
 use mathlib.Core.Path.{_≡_, refl, sym, ap, subst}
 use native.Mathlib.Decide.{ℕ-discrete}
-use native.Mathlib.Nat.{not-suc-le-zero, one-mul, mod-eq-of-lt}
+use native.Mathlib.Nat.{not-suc-le-zero}
 use native.Mathlib.Omega.{arith}
 use lib.Dec.{T}
 use lib.ListN.{length}
-use lib.Pow.{pow-lt}
-use Rattle.flc.specs.Sets.{either, has}
+use Rattle.flc.specs.Sets.{has}
 use Rattle.flc.specs.Formula.{atom}
 use Rattle.flc.specs.Nodes.{Node}
-use Rattle.flc.specs.Vocabulary.{Vocabulary, union, vocabulary}
+use Rattle.flc.specs.Vocabulary.{vocabulary}
 use Rattle.flc.proofs.Tests.{bool-ext, either-use, either-left, either-right}
-use Rattle.flc.proofs.Masks.{set-same, has-or}
+use Rattle.flc.proofs.Masks.{set-same}
 use Rattle.case_model.specs.Case.{Case, nodeAt}
 use Rattle.case_model.specs.Valid.{ValidRule}
 use Rattle.case_model.specs.Reach.{ReachSet}
 use Rattle.case_model.specs.Looking.{own, looked}
 use Rattle.case_model.proofs.Tests.{is-true}
 use Rattle.case_model.proofs.Nodes.{reached-low}
-use Rattle.case_model.proofs.Looking.{part, none-has, occurs}
+use Rattle.case_model.proofs.Looking.{part, has-union, none-has, occurs}
 use Rattle.case_reader.specs.NodeKinds.{atomWith}
 use Rattle.case_reader.specs.declared.kinds.Atom.{Atom}
 use Rattle.vocabulary.specs.Gathering.{withNode, gathered}
@@ -30,17 +29,7 @@ use Rattle.vocabulary.specs.Gathering.{withNode, gathered}
 pub by-atom : (a : ℕ) {x x′ : Atom} → x ≡ x′ → vocabulary (atom (atomWith x′ a)) ≡ vocabulary (atom (atomWith x a))
 by-atom a q = ap (λ x. vocabulary (atom (atomWith x a))) (sym q)
 
--- a shift makes the set of one
-pub shifted : (a : ℕ) → a < 8 → 1 * 2 ^ a % 2 ^ 64 ≡ 2 ^ a
-shifted a h =
-    let small : 2 ^ a < 2 ^ 64 = pow-lt {j = 64} (omega arith) in
-    simp (one-mul, mod-eq-of-lt small)
-
 -- ---- all nodes
-has-union : (b : Bool) (U W : Vocabulary) (i : ℕ) → has (part b (union U W)) i ≡ either (has (part b U) i) (has (part b W) i)
-has-union true U W i = has-or _ _ i
-has-union false U W i = has-or _ _ i
-
 module _ (N : ℕ → Node) (x : ℕ) (b : Bool) (i : ℕ) where
   -- it occurs in a node of x below k
   abbrev From : ℕ → Type 0

@@ -3,7 +3,7 @@ use Prim.Native.Nat.{ℕ, zero, suc}
 use mathlib.Core.Bool.{Bool, cond}
 use Rattle.flc.specs.Sets.{has}
 use Rattle.flc.specs.Nodes.{Node}
-use Rattle.flc.specs.Vocabulary.{Vocabulary, onlyProps, union}
+use Rattle.flc.specs.Vocabulary.{Vocabulary, nothing, union}
 use Rattle.case_model.specs.Looking.{own}
 use Rattle.vocabulary.specs.declared.looking.Vocabulary as code
 
@@ -16,5 +16,5 @@ withNode W counts n = cond counts (union W (own n)) W
 
 -- what the nodes below j look at, of those that are in the set x
 unfoldable pub gathered : (ℕ → Node) → ℕ → ℕ → Vocabulary
-gathered N x zero = onlyProps 0
+gathered N x zero = nothing
 gathered N x (suc j) = withNode (gathered N x j) (has x j) (N j)

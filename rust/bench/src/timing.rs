@@ -1,9 +1,11 @@
-//! Processor times in nanoseconds, each the best of several runs.
+//! Processor times in nanoseconds, each the best of several runs, which are made at various depths of the
+//! stack: where it lies can double the time of a call that keeps tables there.
 use crate::clock::now;
 use std::hint::black_box;
 use std::time::Duration;
 
 const RUNS: usize = 100;
+const DEPTHS: usize = 32;
 /// A run is repeated until it takes about so long, so that the clock's grain does not matter.
 const LEAST: Duration = Duration::from_millis(4);
 
@@ -15,9 +17,9 @@ pub fn best<A, const N: usize>(mut tasks: [&mut dyn FnMut() -> A; N]) -> [f64; N
         (LEAST.as_nanos() as f64 / once).ceil() as usize
     });
     let mut best = [f64::MAX; N];
-    for _ in 0..RUNS {
+    for run in 0..RUNS {
         for ((task, repeats), best) in tasks.iter_mut().zip(repeats).zip(&mut best) {
-            *best = best.min(time(*task, repeats));
+            *best = best.min(lowered(run % DEPTHS, &mut || time(*task, repeats)));
         }
     }
     best
@@ -31,11 +33,25 @@ fn time<A>(task: &mut dyn FnMut() -> A, repeats: usize) -> f64 {
     (now() - start).as_nanos() as f64 / repeats as f64
 }
 
+/// Runs so many frames further down the stack.
+#[inline(never)]
+fn lowered(frames: usize, run: &mut dyn FnMut() -> f64) -> f64 {
+    let room = black_box([0_u8; 96]);
+    let time = match frames.checked_sub(1) {
+        Some(fewer) => lowered(fewer, run),
+        None => run(),
+    };
+    black_box(room);
+    time
+}
+
 /// The best time of one call within about a second; of a single call, if that takes longer.
 pub fn a_few(task: &mut dyn FnMut()) -> f64 {
     const ENOUGH: f64 = 1e9;
     let once = time(task, 1).max(1.0);
     let repeats = (LEAST.as_nanos() as f64 / once).ceil() as usize;
     let runs = (ENOUGH / (once * repeats as f64)) as usize;
-    (0..runs.min(RUNS)).fold(once, |best, _| best.min(time(task, repeats)))
+    (0..runs.min(RUNS)).fold(once, |best, run| {
+        best.min(lowered(run % DEPTHS, &mut || time(task, repeats)))
+    })
 }

@@ -20,7 +20,8 @@ pub fn reaches_group(case: &Case) -> bool {
     fold(case, |leaf| has_group(leaf).into(), usize::max, |body| body) > 0
 }
 
-/// The propositions and the actions that the rule looks at: bit i for number i.
+/// The propositions and the actions that the rule looks at: bit i for number i. From the leaves up, where
+/// the plain checker walks down from the root, so that tests do not rest on that walk alone.
 pub fn looked_at(case: &Case) -> (u8, u8) {
     let leaf = |(kind, a, _)| match kind {
         PROPOSITION | COMPLEMENT => 1_usize << a,

@@ -121,7 +121,8 @@ fn shared_nodes_are_looked_at_once() {
 }
 
 /// The rule ⟨0⟩;p0 looks at action 0 and proposition 0. The lower state keeps its label and its steps
-/// as they are, also where the rule does not look; so do steps into the higher one.
+/// as they are, also where the rule does not look, and steps into the higher one lead to it, whatever
+/// their action.
 #[test]
 fn what_a_merge_writes() {
     let steps = [

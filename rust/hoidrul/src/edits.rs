@@ -17,8 +17,8 @@ use crate::{ffi, Refusal};
 /// Refusals: 1 to 7, then 13 for an area shorter than the result.
 ///
 /// ```
-/// // Three states, a step of action 0 from each of 0 and 1 to 2; the rule ⟨0⟩, which does not look at
-/// // proposition 7, that only 1 has; start states 1 and 2.
+/// // Three states, a step of action 0 from each of 0 and 1 to 2; the rule ⟨0⟩ does not look at
+/// // proposition 7, which only state 1 has; start states 1 and 2.
 /// let file = [
 ///     16, 0, 3, 0, 19, 0, 6, 0, 25, 0, 4, 0, 29, 0, 2, 0, // pairs
 ///     0, 128, 0, // labels

@@ -55,7 +55,7 @@ mod tests {
     use super::*;
     use crate::alike::alike;
 
-    /// Rules that look at nothing, at proposition 0, at action 0, at both.
+    /// Rules that look at nothing, at proposition 0, at actions 0 and 1, at proposition 0 and action 0.
     #[test]
     fn both_ways_agree() {
         both_ways_agree_under(&[(5, 0, 0)]);

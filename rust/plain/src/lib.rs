@@ -24,7 +24,7 @@ mod rewriting;
 mod sets;
 mod vetting;
 
-pub use alike::{alike, alike_in_full, classes, Relation};
+pub use alike::{alike, alike_in_full, classes};
 pub use all_functions::meaning_by_all_functions;
 pub use all_relations::classes_by_all_relations;
 pub use book::{Book, Edit};

@@ -5,7 +5,7 @@ use crate::node::{members, Shape};
 use std::collections::BTreeSet;
 
 /// The propositions and the actions that likeness compares.
-#[derive(Debug, Default, PartialEq, Eq)]
+#[derive(Default)]
 pub struct Looks {
     pub propositions: BTreeSet<u8>,
     pub actions: BTreeSet<u8>,

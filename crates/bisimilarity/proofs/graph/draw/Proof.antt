@@ -1,4 +1,4 @@
--- `bisimilarity::graph::draw` meets its contract: the three parts are those of the case.
+-- `bisimilarity::graph::draw` meets its contract: the parts are those of the case, as far as its rule looks.
 use mathlib.Core.Path.{ap, _∙_}
 use borrow.Author.Needs.{needs}
 use lib.Bits.{bitAnd}

@@ -1,4 +1,4 @@
--- `bisimilarity::graph::labels` meets its contract. The loop's invariant: the entries below s are the labels.
+-- `bisimilarity::graph::labels` meets its contract. The loop's invariant: the entries below s are the labels, as far as they are looked at.
 use borrow.Author.Needs.{needs}
 use Prim.Native.Nat.{_-_, _≤_}
 use native.Mathlib.Omega.{arith}

@@ -1,4 +1,4 @@
--- `bisimilarity::refinement::alike_rows` meets its contract. The loop's invariant: the rows relate all alike pairs and no unequal labels; as numbers they fall.
+-- `bisimilarity::refinement::alike_rows` meets its contract. The invariant: the rows relate all bisimilar pairs and no unequal labels; as numbers they fall.
 use borrow.Author.Needs.{needs}
 use mathlib.Core.Path.{sym, _∙_}
 use Rattle.bisimilarity.proofs.Refining.{Round, total, round-start, round-next, round-falls, round-ends}

@@ -3,8 +3,8 @@ use mathlib.Core.Path.{refl, ap, _∙_}
 use native.Mathlib.Omega.{arith}
 use borrow.Author.Needs.{needs}
 use Rattle.flc.specs.Vocabulary.{onlyProps, onlyActs, vocabulary}
-use Rattle.case_reader.proofs.Knowing.{operand-under}
-use Rattle.vocabulary.proofs.Gathered.{by-atom, shifted}
+use Rattle.case_reader.proofs.Knowing.{operand-under, shifted}
+use Rattle.vocabulary.proofs.Gathered.{by-atom}
 use Rattle.vocabulary.proofs.looking.of_atom.Statement.{statement}
 use Rattle.vocabulary.proofs.looking.of_atom.Tie as tie
 
