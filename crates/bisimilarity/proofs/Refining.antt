@@ -3,13 +3,13 @@
 use mathlib.Core.Bool.{Bool, true, false, not}
 use mathlib.Core.List.{List}
 use mathlib.Core.Path.{_≡_, refl, sym, ap, _∙_, subst}
-use Prim.Native.Nat.{ℕ, zero, suc, _+_, _^_, _≤_, _<_}
+use Prim.Native.Nat.{ℕ, zero, suc, _+_, _*_, _^_, _≤_, _<_}
 use native.Mathlib.Omega.{arith}
-use borrow.Author.Tests.{eq-eqb, eqb-false}
+use borrow.Author.Tests.{eq-eqb, eqb-false, lt-ltb}
 use lib.Bits.{bitAnd}
 use lib.Dec.{T, eqb, eqb→eq, ltb→lt}
 use lib.ListN.{length, getD}
-use Rattle.flc.specs.Sets.{both, implies, forAll, forSome, has, setOf}
+use Rattle.flc.specs.Sets.{both, implies, forAll, has, setOf}
 use Rattle.flc.specs.Formula.{Table, actions}
 use Rattle.flc.specs.Vocabulary.{reduct}
 use Rattle.flc.specs.Bisimulation.{met, bisimilar, alike}
@@ -19,24 +19,33 @@ use Rattle.flc.proofs.Bisimilarity.{Acts, Within, matched, refine, refine-keeps
 use Rattle.case_model.specs.Case.{Case, table}
 use Rattle.case_model.specs.Looking.{looked}
 use Rattle.case_model.proofs.Tests.{is-true}
-use Rattle.bisimilarity.specs.Graphs.{tableOf, Drawn, After}
-use Rattle.bisimilarity.specs.Relations.{related, Rows, sameRows, metBy, kept, sameLabel}
+use Rattle.bisimilarity.specs.Graphs.{tableOf, Drawn}
+use Rattle.bisimilarity.specs.Relations.{related, Rows, sameRows, meets, kept, sameLabel}
 use Rattle.bisimilarity.specs.declared.graph.Graph.{Graph}
 use Rattle.bisimilarity.proofs.Sets.{setOf-le, meeting}
 
 -- ---- the test by masks
-pub met-masks : (g : Graph) (rows : List ℕ) (s t a x y : ℕ) → After g s a x → After g t a y
-    → forAll (g .states) (λ u. implies (has x u) (not (eqb (bitAnd y (getD rows u 0)) 0))) ≡ metBy (tableOf g) (related rows) s t a
-unfolding metBy related
-met-masks g rows s t a x y A B =
-    let meets : (u : ℕ) → not (eqb (bitAnd y (getD rows u 0)) 0) ≡ forSome (g .states) (λ v. both (tableOf g .step t a v) (has (getD rows u 0) v)) = λ u.
-    meeting (g .states) y (getD rows u 0) (B .small) ∙ ap (forSome (g .states)) (λ i v. both (B .is v i) (has (getD rows u 0) v)) in
-    ap (forAll (g .states)) (λ i u. implies (A .is u i) (meets u i))
+pub meets-masks : (n : ℕ) (rows : List ℕ) (x y : ℕ) → y < 2 ^ n
+    → forAll n (λ u. implies (has x u) (not (eqb (bitAnd y (getD rows u 0)) 0))) ≡ meets n (related rows) (has x) (has y)
+unfolding meets related
+meets-masks n rows x y h = ap (forAll n) (λ i u. implies (has x u) (meeting n y (getD rows u 0) h i))
 
 -- by an action that is not looked at there is no step to be met
-pub unlooked : (g : Graph) (R : ℕ → ℕ → Bool) (s t a : ℕ) → has (g .acts) a ≡ false → true ≡ metBy (tableOf g) R s t a
-unfolding metBy both implies
-unlooked g R s t a e = sym (is-true _ (forAll-mk (g .states) _ (λ s′ i. rw e tt)))
+seen-meets : (b : Bool) (n : ℕ) (R : ℕ → ℕ → Bool) (p q : ℕ → Bool) → implies b (meets n R p q) ≡ meets n R (λ s. both b (p s)) (λ t. both b (q t))
+unfolding meets both implies
+seen-meets true n R p q = refl
+seen-meets false n R p q = sym (is-true _ (forAll-mk n _ (λ s i. tt)))
+
+pub met-masks : (g : Graph) (R : ℕ → ℕ → Bool) (s t a : ℕ) → a < actions
+    → implies (has (g .acts) a) (meets (g .states) R (has (getD (g .successors) (8 * s + a) 0)) (has (getD (g .successors) (8 * t + a) 0)))
+    ≡ meets (g .states) R (tableOf g .step s a) (tableOf g .step t a)
+unfolding both
+met-masks g R s t a h =
+    let b : Bool = has (g .acts) a in
+    let p : ℕ → Bool = has (getD (g .successors) (8 * s + a) 0) in
+    let q : ℕ → Bool = has (getD (g .successors) (8 * t + a) 0) in
+    seen-meets b (g .states) R p q
+    ∙ sym (ap (λ c. meets (g .states) R (λ u. both b (both c (p u))) (λ v. both b (both c (q v)))) (lt-ltb a actions h))
 
 acts : (g : Graph) → Acts (tableOf g)
 acts g s a t u = ltb→lt a actions (both-left _ _ (both-right _ _ u))

@@ -27,8 +27,3 @@ pub record Sized (g : Graph) : Type 0 where
 pub record Drawn (c : Case) (g : Graph) : Type 0 where
   pub sized : Sized g
   pub is : tableOf g ≡ reduct (looked c) (table c)
-
--- x is the set of the states after a step of s by a
-pub record After (g : Graph) (s a x : ℕ) : Type 0 where
-  pub small : x < 2 ^ g .states
-  pub is : (t : ℕ) → has x t ≡ tableOf g .step s a t

@@ -21,10 +21,9 @@ pub record Rows (n : ℕ) (rows : List ℕ) (R : ℕ → ℕ → Bool) : Type 0 
 abbrev pub sameRows : ℕ → List ℕ → List ℕ → Bool
 sameRows n rows next = forAll n (λ s. eqb (getD rows s 0) (getD next s 0))
 
--- each step of s by a is met by t: `met` is this for every action
-unfoldable pub metBy : Table → (ℕ → ℕ → Bool) → ℕ → ℕ → ℕ → Bool
-metBy L R s t a =
-    forAll (L .n) (λ s′. implies (L .step s a s′) (forSome (L .n) (λ t′. both (L .step t a t′) (R s′ t′))))
+-- each state in p is related to one in q: `met` is this of the states after a step of s and of t, for every action
+unfoldable pub meets : ℕ → (ℕ → ℕ → Bool) → (ℕ → Bool) → (ℕ → Bool) → Bool
+meets n R p q = forAll n (λ s. implies (p s) (forSome n (λ t. both (q t) (R s t))))
 
 -- a related pair, each of which meets the other's steps
 unfoldable pub kept : Table → (ℕ → ℕ → Bool) → ℕ → ℕ → Bool

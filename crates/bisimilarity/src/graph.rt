@@ -1,15 +1,12 @@
 // The state table of a case as far as its rule looks, read from the file once.
-ghost use mathlib.Core.Bool.{true};
 ghost use mathlib.Core.Path.{_≡_};
-ghost use Prim.Native.Nat.{ℕ, _<_};
+ghost use Prim.Native.Nat.{ℕ};
 ghost use lib.Bits.{bitAnd};
 ghost use lib.ListN.{getD};
-ghost use Rattle.flc.specs.Sets.{has};
-ghost use Rattle.flc.specs.Formula.{actions};
 ghost use Rattle.case_model.specs.Case.{read};
 ghost use Rattle.case_model.specs.Limits.{mostStates, standard};
 ghost use Rattle.case_model.specs.Valid.{ValidTable, Valid};
-ghost use Rattle.bisimilarity.specs.Graphs.{Sized, Drawn, After};
+ghost use Rattle.bisimilarity.specs.Graphs.{Drawn};
 use case_file::Case;
 use case_reader::label;
 use case_reader::state_count;
@@ -52,13 +49,4 @@ pub fn draw(file: &[u8]) -> Graph
         acts: seen.acts,
         successors,
     }
-}
-
-// The states after a step of s by action a, which is looked at.
-pub(crate) fn after(graph: Graph, s: usize, a: usize) -> u16
-    requires { ⌜ Sized graph × (s < mostStates) × (a < actions) × (has (graph .acts) a ≡ true) ⌝ }
-    ensures { λ r. ⌜ After graph s a r ⌝ }
-{
-    let at = 8 * s + a;
-    graph.successors[at]
 }

@@ -1,30 +1,25 @@
 // Which states are alike, by refinement: pairs with unequal labels are left out, then pairs with a step that is not met, until none is.
 // A relation is a row for each state s, the set of the states related to s.
 ghost use mathlib.Core.Path.{_≡_};
-ghost use Prim.Native.Nat.{_≤_, _<_};
-ghost use Rattle.flc.specs.Sets.{setOf};
+ghost use Prim.Native.Nat.{_^_, _≤_, _<_};
+ghost use Rattle.flc.specs.Sets.{implies, has, setOf};
 ghost use Rattle.flc.specs.Bisimulation.{met, bisimilar};
-ghost use Rattle.flc.specs.Formula.{actions};
 ghost use Rattle.case_model.specs.Limits.{mostStates};
 ghost use Rattle.bisimilarity.specs.Graphs.{tableOf, Sized};
-ghost use Rattle.bisimilarity.specs.Relations.{related, Rows, sameRows, metBy, kept, sameLabel};
+ghost use Rattle.bisimilarity.specs.Relations.{related, Rows, sameRows, meets, kept, sameLabel};
 use crate::graph::Graph;
-use crate::graph::after;
 use crate::masks::extended;
 use crate::masks::member;
 use case_file::Case;
 
-// Is each step of s by a met by a step of t by a into a related state? If a is not looked at, there is none.
-fn met_by(graph: Graph, rows: [u16; 16], s: usize, t: usize, a: usize) -> bool
-    requires { ⌜ Sized graph × (s < graph .states) × (t < graph .states) × (a < actions) ⌝ }
-    ensures { λ r. ⌜ r ≡ metBy (tableOf graph) (related rows) s t a ⌝ }
+// Is each state of the set `from` related to one of the set `to`? Steps by an action that is not looked at need not be met.
+fn met_by(looked: bool, n: usize, rows: [u16; 16], from: u16, to: u16) -> bool
+    requires { ⌜ (n ≤ mostStates) × (to < 2 ^ n) ⌝ }
+    ensures { λ r. ⌜ r ≡ implies looked (meets n (related rows) (has from) (has to)) ⌝ }
 {
-    if (graph.acts >> a) % 2 == 0 {
+    if !looked {
         return true;
     }
-    let n = graph.states;
-    let from = after(graph, s, a);
-    let to = after(graph, t, a);
     let mut all = true;
     for u in 0..n {
         all = all & (!member(from, u) | ((to & rows[u]) != 0));
@@ -32,14 +27,18 @@ fn met_by(graph: Graph, rows: [u16; 16], s: usize, t: usize, a: usize) -> bool
     all
 }
 
-// Is each step of s met by a step of t?
+// Is each step of s met by a step of t? The sets of states are read here: handed to another function, the graph would be copied for each of them.
 fn met(graph: Graph, rows: [u16; 16], s: usize, t: usize) -> bool
     requires { ⌜ Sized graph × (s < graph .states) × (t < graph .states) ⌝ }
     ensures { λ r. ⌜ r ≡ met (tableOf graph) (related rows) s t ⌝ }
 {
+    let n = graph.states;
     let mut all = true;
     for a in 0..Case::ACTIONS {
-        all = all & met_by(graph, rows, s, t, a);
+        let looked = (graph.acts >> a) % 2 == 1;
+        let from = graph.successors[8 * s + a];
+        let to = graph.successors[8 * t + a];
+        all = all & met_by(looked, n, rows, from, to);
     }
     all
 }

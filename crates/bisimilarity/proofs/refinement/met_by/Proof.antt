@@ -1,4 +1,4 @@
--- `bisimilarity::refinement::met_by` meets its contract. The loop's invariant: the test of the states below u; as masks it is that of the table.
+-- `bisimilarity::refinement::met_by` meets its contract. The loop's invariant: the test of the states below u; as masks it is that of the sets.
 use borrow.Author.Needs.{needs}
 use mathlib.Core.Bool.{not}
 use mathlib.Core.Path.{_≡_, refl, _∙_}
@@ -9,30 +9,19 @@ use lib.Dec.{eqb}
 use lib.ListN.{getD}
 use Rattle.flc.specs.Sets.{implies, forAll, has}
 use Rattle.bisimilarity.proofs.Sets.{all-more}
-use Rattle.case_reader.proofs.Reaching.{absent, present}
-use Rattle.bisimilarity.proofs.Refining.{met-masks, unlooked}
+use Rattle.bisimilarity.proofs.Refining.{meets-masks}
 use Rattle.bisimilarity.proofs.refinement.met_by.Statement.{statement}
 use Rattle.bisimilarity.proofs.refinement.met_by.Tie as tie
 
 abbrev Inv-loop : tie.InvT-loop
-Inv-loop s t a rows n from to all₀ u₀ all u = (u ≤ n) × (all ≡ forAll u (λ v. implies (has from v) (not (eqb (bitAnd to (getD rows v 0)) 0))))
+Inv-loop looked n from to rows all₀ u₀ all u = (u ≤ n) × (all ≡ forAll u (λ v. implies (has from v) (not (eqb (bitAnd to (getD rows v 0)) 0))))
 
 abbrev μ-loop : tie.MeasureT-loop
-μ-loop s t a rows n from to all₀ u₀ all u = n - u
-
-shr-if1 : tie.Need-shr-if1 Inv-loop μ-loop
-shr-if1 c = search needs
+μ-loop looked n from to rows all₀ u₀ all u = n - u
 
 returns : tie.Need-returns Inv-loop μ-loop
-returns c =
-    let a = c .before .before .args in
-    unlooked (a .graph) _ (a .s) (a .t) (a .a) (absent _ _ (c .if1 .taken))
-
-after-requires : tie.Need-after-requires Inv-loop μ-loop
-after-requires c κs = let h = c .before .before .pre in (h .0, omega (arith, h .0 .few, h .1), h .3, present _ _ (c .if1 .left))
-
-after-requires-2 : tie.Need-after-requires-2 Inv-loop μ-loop
-after-requires-2 c κs = let h = c .before .before .before .pre in (h .0, omega (arith, h .0 .few, h .2), h .3, present _ _ (c .before .if1 .left))
+unfolding implies
+returns c = rw (c .if1 .taken)
 
 loop-holds : tie.Need-loop-holds Inv-loop μ-loop
 unfolding forAll
@@ -58,12 +47,12 @@ unfolding implies
 loop-again c = (omega arith, all-more _ _ (c .before .before .loop .inv .1) (rw (c .member .ensures)))
 
 returns-2 : tie.Need-returns-2 Inv-loop μ-loop
+unfolding implies
 returns-2 c =
-    let at-after = c .before .before .before in
-    let start = at-after .before .before .before in
+    let start = c .before .before .before in
     let a = start .args in
-    let e : c .before .loop .u ≡ a .graph .states = omega arith in
-    c .before .loop .inv .1 ∙ rw e (met-masks (a .graph) (a .t2) (a .s) (a .t) (a .a) _ _ (at-after .after .ensures) (c .before .before .after2 .ensures))
+    let e : c .before .loop .u ≡ a .n = omega arith in
+    rw (c .before .before .if1 .left) (c .before .loop .inv .1 ∙ rw e (meets-masks (a .n) (a .t3) (a .from) (a .to) (start .pre .1)))
 
 pub met-by-spec : {M : Type 1} → statement M
 met-by-spec =
@@ -71,10 +60,7 @@ met-by-spec =
     (tie.spec
     Inv-loop
     μ-loop
-    shr-if1
     returns
-    after-requires
-    after-requires-2
     loop-holds
     member-requires
     mul-all
