@@ -1,5 +1,5 @@
-//! Processor times in nanoseconds, each the best of several runs, which are made at various depths of the
-//! stack: where it lies can double the time of a call that keeps tables there.
+//! Processor times in nanoseconds, each the best of several runs. They are made at various depths of
+//! the stack, since where it lies moves the time of a call that keeps tables there.
 use crate::clock::now;
 use std::hint::black_box;
 use std::time::Duration;
