@@ -13,7 +13,8 @@ use Rattle.bisimilarity.proofs.refinement.met.Statement.{statement}
 use Rattle.bisimilarity.proofs.refinement.met.Tie as tie
 
 abbrev Inv-loop : tie.InvT-loop
-Inv-loop rows s t graph n all₀ a₀ all a = (a ≤ 8) × (all ≡ forAll a (λ b. meets (graph .states) (related rows) (tableOf graph .step s b) (tableOf graph .step t b)))
+Inv-loop rows s t graph n all₀ a₀ all a =
+    (a ≤ 8) × (all ≡ forAll a (λ b. meets (graph .states) (related rows) (tableOf graph .step s b) (tableOf graph .step t b)))
 
 abbrev μ-loop : tie.MeasureT-loop
 μ-loop rows s t graph n all₀ a₀ all a = 8 - a
