@@ -43,33 +43,6 @@ pub turned-back : (f : List ℕ) {v : Vetted} (x : Refusal) → v ≡ vetted.Ref
 unfolding accepting
 turned-back f x q e = replied-refused (refusals standard f) (counts (read f)) _ _ (sym e ∙ ap vettedReply q)
 
-pub record Counted (x : Case) : Type 0 where
-  pub states : x .states ≤ mostStates
-  pub nodes : x .nodes ≤ mostNodes
-
-pub case-small : (f : List ℕ) (k : ℕ) {v : Vetted} (x : Case) → v ≡ vetted.Case x → vettedReply v ≡ vetting f k → Counted x
-unfolding vetting
-case-small f k x q e =
-    let (s, same) = replied-sound (refusals standard f orElse row8 k sections) (counts (read f)) (countsOf x) (sym e ∙ ap vettedReply q) in
-    let c = accepted-valid standard f (left-sound (refusals standard f) (row8 k sections) s) in
-    record {
-      states = subst (λ (n : ℕ). n ≤ mostStates) (ap (λ (y : Counts). y .states) same) (c .table .few);
-      nodes = subst (λ (n : ℕ). n ≤ mostNodes) (ap (λ (y : Counts). y .nodes) same) (c .rule .most);
-    }
-
--- the place of a refusal that was found by rows with small places
-pub place-small : {A : Type 0} {r : Found} → Placed r → (a : A) (k p : ℕ) → replied r a ≡ refuses k p → p < 2 ^ 32
-place-small {r = r} h a k p e = small (subst Placed (replied-refused r a k p e) h)
-  where
-    small : {k p : ℕ} → Placed (refused k p) → p < 2 ^ 32
-    small (somewhere l) = l
-
-pub vetted-small : (f : List ℕ) → ((i : ℕ) → byteAt f i < 256) → (k : ℕ) {v : Vetted} (x : Refusal) → v ≡ vetted.Refused x → vettedReply v ≡ vetting f k
-    → x .place < 2 ^ 32
-unfolding vetting
-vetted-small f bytes k x q e =
-    place-small (later (refusals-placed standard f bytes) (ltb k sections) 8) (counts (read f)) (number (x .reason)) (x .place) (sym e ∙ ap vettedReply q)
-
 pub number-small : (r : Reason) → number r ≤ 13
 number-small reason.Pairs = omega arith
 number-small reason.Labels = omega arith

@@ -1,6 +1,7 @@
 -- What the answer of vetting tells of the section that is opened.
 -- An answer says that row 1 passed, so the section lies within the file; a refusal opens the empty part.
-use Prim.Native.Nat.{ℕ, _+_, _≤_, _<_}
+use Prim.Native.Nat.{ℕ, _+_, _-_, _≤_, _<_}
+use native.Mathlib.Nat.{add-sub-cancel-left}
 use mathlib.Core.List.{List, []}
 use mathlib.Core.Path.{_≡_, sym, ap, _∙_}
 use borrow.Author.Tests.{ltb-true}
@@ -40,6 +41,10 @@ opens f k {v} x q e =
       long = rw (← e, q) (unfold section in length-listOf (size f k) (λ i. byteAt f (offset f k + i)));
       at = rw (← e, q);
     }
+
+-- the bytes from where the section begins, if they are as many as it has
+pub cut : {f : List ℕ} {k from to : ℕ} → Opens f k → from ≡ offset f k → to ≡ from + size f k → take (to - from) (drop from f) ≡ opening f k
+cut o start end = rw (end, add-sub-cancel-left, start) (sym (o .is))
 
 pub record Empty (f : List ℕ) (k : ℕ) : Type 0 where
   pub is : [] ≡ opening f k

@@ -35,6 +35,9 @@ impl Case {
 
     pub const SECTIONS: usize = case_reader::SECTIONS;
 
+    // In bytes, between two sections.
+    pub const PADDING: usize = case_tests::PADDING;
+
     pub const STATES: usize = 16;
 
     pub const NODES: usize = case_tests::NODES;

@@ -11,7 +11,7 @@ use Rattle.flc.specs.Nodes.{lower, formulaAt}
 use Rattle.flc.specs.Vocabulary.{vocabulary, reduct}
 use Rattle.flc.specs.Bisimulation.{met, matching, bisimilar, alike}
 use Rattle.case_model.specs.Bytes.{listOf, padding, chained, pairsHold, section, packed}
-use Rattle.case_model.specs.Case.{flat, write, listed, table, nodeAt, rule}
+use Rattle.case_model.specs.Case.{Case, flat, write, listed, table, nodeAt, rule}
 use Rattle.case_model.specs.Kinds.{Triple, kinds, kindAt}
 use Rattle.case_model.specs.Rows.{lowest, rootClosed, refusals}
 use Rattle.case_model.specs.Replies.{answers, refuses}
@@ -26,21 +26,40 @@ use Rattle.case_model.specs.Run.{replies}
 abbrev of : List Triple → ℕ → List ℕ
 of n r = caseOf (0 ∷ []) [] n r
 
--- rows 11 to 13, and laws 9, 1, 4 and 6 where they are there
+-- rows 11 to 13, and law 9 where it is there
 rewrites :
     (rewriting F 1 9 55 ≡ refuses 11 0)
     × (rewriting F 0 8 55 ≡ refuses 11 0)
     × (rewriting (of (replicate 61 (5, 0, 0) ++ ((10, 0, 0) ∷ (10, 61, 0) ∷ (5, 0, 0) ∷ [])) 62) 4 62 6385 ≡ refuses 12 0)
     × (rewriting F 9 8 54 ≡ refuses 13 0)
     × (rewriting F 9 8 55 ≡ answers (caseOf (0 ∷ 0 ∷ []) ((0, 0, 1) ∷ (1, 1, 1) ∷ []) (set nodes 8 (8, 6, 7)) 9))
-    × (rewriting (of ((5, 0, 0) ∷ (6, 0, 0) ∷ (10, 0, 1) ∷ []) 2) 1 2 99 ≡ answers (of ((5, 0, 0) ∷ (6, 0, 0) ∷ (10, 0, 1) ∷ []) 1))
-    × (rewriting (of ((6, 0, 0) ∷ (6, 1, 0) ∷ (10, 0, 1) ∷ (10, 2, 0) ∷ (8, 3, 2) ∷ []) 4) 4 3 99
-    ≡ answers (of ((6, 0, 0) ∷ (6, 1, 0) ∷ (10, 0, 1) ∷ (10, 1, 0) ∷ (10, 0, 3) ∷ (8, 4, 2) ∷ []) 5))
-    × (rewriting (of ((6, 0, 0) ∷ (6, 1, 0) ∷ (8, 0, 1) ∷ (10, 2, 0) ∷ []) 3) 6 3 99
-    ≡ answers (of ((6, 0, 0) ∷ (6, 1, 0) ∷ (8, 0, 1) ∷ (10, 0, 0) ∷ (10, 1, 0) ∷ (8, 3, 4) ∷ []) 5))
 unfolding rewriting change rewrite write packed refusals pairsHold chained padding section
     listOf lowest first forAll forSome both either rootClosed rule formulaAt lower nodeAt kindAt kinds free
-rewrites = (refl, refl, refl, refl, refl, refl, refl, refl)
+rewrites = (refl, refl, refl, refl, refl)
+
+-- the rule of ⟨0⟩, ⟨1⟩, τ, tt, the nodes given and the last of them as root; and what law k makes of it at node j, if it fits
+abbrev ruled : List Triple → ℕ → Case
+ruled l r = record { labels = 0 ∷ []; steps = []; nodes = (6, 0, 0) ∷ (6, 1, 0) ∷ (5, 0, 0) ∷ (0, 0, 0) ∷ l; root = r; starts = [] }
+
+abbrev by : ℕ → ℕ → Case → Case
+by k j c = rewrite c j (change (c .nodes) k j)
+
+-- laws 1 to 9, a line each where it fits, with what names node j; the last lines have a shape that does not fit
+laws :
+    (by 1 4 (ruled ((10, 2, 0) ∷ (8, 4, 1) ∷ []) 5) ≡ ruled ((10, 2, 0) ∷ (8, 0, 1) ∷ []) 5)
+    × (by 2 4 (ruled ((10, 0, 2) ∷ (8, 4, 1) ∷ []) 5) ≡ ruled ((10, 0, 2) ∷ (8, 0, 1) ∷ []) 5)
+    × (by 3 4 (ruled ((10, 3, 0) ∷ (11, 4, 4) ∷ []) 4) ≡ ruled ((10, 3, 0) ∷ (11, 4, 3) ∷ []) 3)
+    × (by 4 5 (ruled ((10, 0, 1) ∷ (10, 4, 2) ∷ (11, 5, 5) ∷ []) 6) ≡ ruled ((10, 0, 1) ∷ (10, 1, 2) ∷ (10, 0, 5) ∷ (11, 5, 6) ∷ []) 7)
+    × (by 5 5 (ruled ((10, 1, 2) ∷ (10, 0, 4) ∷ []) 5) ≡ ruled ((10, 1, 2) ∷ (10, 0, 1) ∷ (10, 5, 2) ∷ []) 6)
+    × (by 6 5 (ruled ((8, 0, 1) ∷ (10, 4, 2) ∷ []) 5) ≡ ruled ((8, 0, 1) ∷ (10, 0, 2) ∷ (10, 1, 2) ∷ (8, 5, 6) ∷ []) 7)
+    × (by 7 5 (ruled ((9, 0, 1) ∷ (10, 4, 2) ∷ []) 5) ≡ ruled ((9, 0, 1) ∷ (10, 0, 2) ∷ (10, 1, 2) ∷ (9, 5, 6) ∷ []) 7)
+    × (by 8 4 (ruled ((9, 0, 0) ∷ []) 4) ≡ ruled ((9, 0, 0) ∷ []) 0)
+    × (by 9 4 (ruled ((9, 0, 1) ∷ []) 4) ≡ ruled ((9, 1, 0) ∷ []) 4)
+    × (by 3 4 (ruled ((10, 2, 0) ∷ []) 4) ≡ ruled ((10, 2, 0) ∷ []) 4)
+    × (by 6 5 (ruled ((8, 0, 1) ∷ (10, 2, 4) ∷ []) 5) ≡ ruled ((8, 0, 1) ∷ (10, 2, 4) ∷ []) 5)
+    × (by 8 4 (ruled ((8, 0, 1) ∷ []) 4) ≡ ruled ((8, 0, 1) ∷ []) 4)
+unfolding rewrite change kindAt kinds
+laws = (refl, refl, refl, refl, refl, refl, refl, refl, refl, refl, refl, refl)
 
 -- kinds 13 and 14 are carried as they are, before and behind the node that is rewritten and wherever numbers move; law 3 does not take them
 rewrites-groups :

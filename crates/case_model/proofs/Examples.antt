@@ -10,7 +10,7 @@ use Rattle.flc.specs.Formula.{atom, modal, free}
 use Rattle.flc.specs.Nodes.{leaf, lower, formulaAt}
 use Rattle.case_model.specs.Bytes.{listOf, padding, chained, pairsHold, section, packed}
 use Rattle.case_model.specs.Case.{flat, write, nodeAt, rule}
-use Rattle.case_model.specs.Kinds.{Triple, kinds, kindAt, nodeOf}
+use Rattle.case_model.specs.Kinds.{Triple, kinds, kindAt, nodeOf, nodeHolds}
 use Rattle.case_model.specs.Rows.{lowest, rootClosed, refusals}
 use Rattle.case_model.specs.Replies.{answers, refuses, vetting, opening}
 
@@ -76,6 +76,11 @@ modalities :
     × (nodeOf (14, 129, 0) ≡ leaf (atom (modal false 129)))
 unfolding kindAt kinds
 modalities = (refl, refl, refl, refl)
+
+-- a binder's variable is one of 16, and its body a lower node
+binders : (nodeHolds 3 (11, 15, 2) ≡ true) × (nodeHolds 3 (11, 16, 2) ≡ false) × (nodeHolds 3 (12, 0, 3) ≡ false)
+unfolding kindAt kinds
+binders = (refl, refl, refl)
 
 -- row 5, kinds 13 and 14: any group is right, the other operand is unused, and 15 is no kind. They bind no variable (0 is bound by node 9) and
 -- name no node (node 0 is a variable, which would be free in the root 5)

@@ -27,6 +27,7 @@ use Rattle.case_model.specs.Decision.{Monotone, InFixed, FirstStill, Dec
 use Rattle.case_model.proofs.Valid.{accepted-valid}
 use Rattle.case_model.specs.Valid.{Valid}
 use Rattle.case_model.proofs.Nodes.{node-lower}
+use Rattle.case_model.proofs.DemandExamples as examples
 
 -- an accepted file with work area enough is answered at every set of its states
 pub judging-answers : (f : List ℕ) (x words : ℕ) → refusals standard f ≡ sound → x < 2 ^ length (read f .labels) → row9 (read f) words ≡ sound

@@ -1,6 +1,7 @@
 pub mod Examples
 pub mod EditExamples
 pub mod StartExamples
+pub mod DemandExamples
 pub mod Lists
 pub mod Tests
 pub mod Laying

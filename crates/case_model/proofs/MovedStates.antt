@@ -15,6 +15,7 @@ use Rattle.case_model.specs.Kinds.{Triple}
 use Rattle.case_model.specs.Merging.{moved, movedSteps}
 -- checked first: a slip in merging is told as a false equation there
 use Rattle.case_model.proofs.EditExamples as examples
+use Rattle.case_model.proofs.DemandExamples as instances
 
 -- the old number of the new state u
 unfoldable pub stays : ℕ → ℕ → ℕ

@@ -66,6 +66,5 @@ demand-3 first l last ok calls =
       unlike = each-unlike first l last ok calls;
       accepted = S .accepted;
       within = S .within;
-      verdicts = stands-judged ok S;
-      starts = starts-judged ok S;
+      verdict = record { states = stands-judged ok S; starts = starts-judged ok S };
     }

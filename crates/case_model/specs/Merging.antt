@@ -1,10 +1,11 @@
 -- Classes of alike states, and merging: docs/SPECIFICATION.md, 4.3 to 4.7, with refusals 8, 10 and 13.
-use Prim.Native.Nat.{ℕ, zero, suc, _-_, _/_, _%_, min, max}
+use Prim.Native.Nat.{ℕ, zero, suc, _-_, _*_, _/_, _%_, min, max}
 use mathlib.Core.Bool.{Bool, false, _&&_, not, cond}
 use mathlib.Core.List.{List, [], _∷_, _++_, map}
 use lib.Dec.{eqb, ltb}
 use lib.ListN.{length, take, drop}
 use Rattle.flc.specs.Sets.{either, first}
+use Rattle.flc.specs.Formula.{actions}
 use Rattle.flc.specs.Bisimulation.{alike}
 use Rattle.case_model.specs.Limits.{mostStates, standard}
 use Rattle.case_model.specs.Bytes.{listOf}
@@ -43,12 +44,15 @@ unfoldable pub selected : {A : Type 0} → ℕ → (ℕ → Bool) → (ℕ → A
 selected zero p h = []
 selected (suc x) p h = selected x p h ++ chosen (p x) (h x)
 
--- the triple (s, a, t) with the number x, which is 128 s + 16 a + t; and whether it is a step
+-- the triple with the number x, whose lowest digit is the state entered, then the action; whether it is a step; and how many triples there are
 abbrev pub numbered : ℕ → Triple
-numbered x = (x / 128, x / 16 % 8, x % 16)
+numbered x = (x / (actions * mostStates), x / mostStates % actions, x % mostStates)
 
 abbrev pub isStep : (ℕ → ℕ → ℕ → Bool) → ℕ → Bool
-isStep step x = step (x / 128) (x / 16 % 8) (x % 16)
+isStep step x = step (numbered x .0) (numbered x .1) (numbered x .2)
+
+abbrev pub mostSteps : ℕ
+mostSteps = mostStates * (actions * mostStates)
 
 -- clause 4.5: the steps among the triples numbered below n
 unfoldable pub inOrder : ℕ → (ℕ → ℕ → ℕ → Bool) → List Triple
@@ -63,7 +67,7 @@ isIn (x ∷ l) s = either (eqb x s) (isIn l s)
 unfoldable pub merge : Case → ℕ → ℕ → Case
 merge c k r = record {
   labels = take r (c .labels) ++ drop (suc r) (c .labels);
-  steps = inOrder 2048 (listed (movedSteps k r (c .steps)));
+  steps = inOrder mostSteps (listed (movedSteps k r (c .steps)));
   nodes = c .nodes;
   root = c .root;
   starts = selected mostStates (isIn (map (moved k r) (c .starts))) (λ s. s);

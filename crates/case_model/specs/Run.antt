@@ -80,15 +80,19 @@ everyStart c p = forAll (length (c .starts)) (λ i. p (byteAt (c .starts) i))
 unfoldable pub startsHold : List ℕ → ℕ → Bool
 startsHold f words = everyStart (read f) (holds f words)
 
--- clause 6.7, demand 3, of the list as a whole: file and replies are the plain book's, unlike is told as it must be, the last file is accepted, a state of
--- the first case holds in it exactly if the state that stands for it holds in the last, and every start state of the first case holds exactly if every one of
--- the last does, with work area enough at both ends
+-- clause 6.7, the verdict of two files, of which the first has standing s in the last for its state s: each state holds in the first exactly if the one that
+-- stands for it does in the last, and every start state of the first exactly if every one of the last, with work area enough at both ends
+pub record VerdictKept (first last : List ℕ) (standing : ℕ → ℕ) : Type 0 where
+  pub states : (words words′ : ℕ) → row9 (read first) words ≡ sound → row9 (read last) words′ ≡ sound
+      → (s : ℕ) → s < length (read first .labels) → holds first words s ≡ holds last words′ (standing s)
+  pub starts : (words words′ : ℕ) → row9 (read first) words ≡ sound → row9 (read last) words′ ≡ sound → startsHold first words ≡ startsHold last words′
+
+-- clause 6.7, demand 3, of the list as a whole: file and replies are the plain book's, unlike is told as it must be, the last file is accepted, each state has
+-- one of its case to stand for it, and the verdict stays
 pub record Kept (first : List ℕ) (l : List Call) (last : List ℕ) : Type 0 where
   pub file : book (begun first) (map edit l) .file ≡ last
   pub told : replies (begun first) (map edit l) ≡ map (λ (c : Call). c .told) l
   pub unlike : Each UnlikeTold first l
   pub accepted : refusals standard last ≡ sound
   pub within : (s : ℕ) → s < length (read first .labels) → book (begun first) (map edit l) .standing s < length (read last .labels)
-  pub verdicts : (words words′ : ℕ) → row9 (read first) words ≡ sound → row9 (read last) words′ ≡ sound
-      → (s : ℕ) → s < length (read first .labels) → holds first words s ≡ holds last words′ (book (begun first) (map edit l) .standing s)
-  pub starts : (words words′ : ℕ) → row9 (read first) words ≡ sound → row9 (read last) words′ ≡ sound → startsHold first words ≡ startsHold last words′
+  pub verdict : VerdictKept first last (book (begun first) (map edit l) .standing)

@@ -7,7 +7,6 @@ use mathlib.Core.Logic.{_↔_}
 use mathlib.Core.Path.{_≡_, refl, sym, ap, ap₂, _∙_, subst, subst₂, fun-ext}
 use native.Mathlib.Decide.{decLt}
 use native.Mathlib.Nat.{one-mul, mod-eq-of-lt}
-use native.Mathlib.Numerals.{add-one}
 use native.Mathlib.Omega.{arith}
 use borrow.Author.Tests.{lt-ltb, le-ltb}
 use lib.Dec.{T}
@@ -86,7 +85,7 @@ binders-are {c} valid = record {
 pub record Begun (c : Case) (w : List ℕ) : Type 0 where
   pub states : getD w statesAt 0 ≡ length (c .labels)
   pub size : getD w sizeAt 0 ≡ 2 ^ length (c .labels)
-  pub limit : getD w limitAt 0 ≡ suc (length (c .labels) * 2 ^ length (c .labels))
+  pub limit : getD w limitAt 0 ≡ length (c .labels) * 2 ^ length (c .labels)
   pub root : getD w rootAt 0 ≡ c .root
   pub count : getD w countAt 0 ≡ length (c .nodes)
   pub rest : (i : ℕ) → getD w (nodesAt + i) 0 ≡ 0
@@ -95,12 +94,12 @@ pub record Begun (c : Case) (w : List ℕ) : Type 0 where
 abbrev pub headed : ℕ → ℕ → ℕ → ℕ → ℕ → List ℕ
 headed n s l r m = set (set (set (set (set (replicate planWords 0) statesAt n) sizeAt s) limitAt l) rootAt r) countAt m
 
-pub begun : {c : Case} (n s l r m : ℕ) → n ≡ length (c .labels) → s ≡ 2 ^ n → l ≡ n * s + 1 → r ≡ c .root → m ≡ length (c .nodes)
+pub begun : {c : Case} (n s l r m : ℕ) → n ≡ length (c .labels) → s ≡ 2 ^ n → l ≡ n * s → r ≡ c .root → m ≡ length (c .nodes)
     → Begun c (headed n s l r m)
 begun n s l r m e z q root count = record {
   states = e;
   size = z ∙ ap (λ n. 2 ^ n) e;
-  limit = q ∙ add-one (n * s) ∙ ap₂ (λ n s. suc (n * s)) e (z ∙ ap (λ n. 2 ^ n) e);
+  limit = q ∙ ap₂ (λ n s. n * s) e (z ∙ ap (λ n. 2 ^ n) e);
   root = root;
   count = count;
   rest = λ i. sym (getD-drop nodesAt (headed n s l r m) i 0) ∙ zeros 408 i;
@@ -183,7 +182,7 @@ module _ {c : Case} (valid : Valid standard c) {m : ℕ} (em : m ≡ length (c .
               props = λ i h. rw (props i h, size-is) (setOf-lt (length (c .labels)) _);
               sources = λ k h. rw size-is (source-small (valid .table) bytes p states props R (λ k h. E .inside k h) k h);
             };
-            limit = head limitAt (omega arith) ∙ O .limit ∙ ap₂ (λ n k. suc (n * k)) (sym states) (sym size-is);
+            limit = head limitAt (omega arith) ∙ O .limit ∙ ap₂ (λ n k. n * k) (sym states) (sym size-is);
             most = rw count (valid .rule .most);
             root = rw (root, count) (valid .rule .root);
             kinds = λ j h. ap (nodeHolds j) (triples j) ∙ valid .rule .kinds j (few j h);

@@ -19,7 +19,7 @@ use Rattle.case_model.specs.Case.{Case}
 use Rattle.case_model.specs.Reach.{Reached}
 
 -- ---- the places in it, by the names that the code gives them
--- n, 2^n, the rounds that no binder needs, the root, the number of nodes
+-- n, 2^n, the most rounds that a binder takes, the root, the number of nodes
 abbrev pub statesAt : ℕ
 statesAt = 0
 
@@ -132,7 +132,7 @@ pub record Scoped (p : Plan) : Type 0 where
 
 pub record Sound (p : Plan) : Type 0 where
   pub sized : Sized p
-  pub limit : p .limit ≡ suc (p .states * p .size)
+  pub limit : p .limit ≡ p .states * p .size
   pub most : p .count ≤ mostNodes
   pub root : p .root < p .count
   pub kinds : (j : ℕ) → j < p .count → nodeHolds j (p .nodes j) ≡ true

@@ -12,7 +12,7 @@ pub const STATES: usize = 0;
 // 2^n.
 pub const SIZE: usize = 1;
 
-// One more than the rounds after which approximants stand still.
+// n × 2^n, the rounds after which approximants stand still.
 pub const LIMIT: usize = 2;
 
 // The root's number.

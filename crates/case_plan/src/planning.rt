@@ -35,7 +35,7 @@ pub fn plan(file: &[u8]) -> Plan
     let mut plan = [0usize; 413];
     plan[STATES] = states;
     plan[SIZE] = size;
-    plan[LIMIT] = states * size + 1;
+    plan[LIMIT] = states * size;
     plan[ROOT] = root;
     plan[COUNT] = count;
     put_nodes(&mut plan, file, count);

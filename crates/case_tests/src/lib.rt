@@ -5,6 +5,7 @@ mod tests;
 
 pub use limits::Limits;
 pub use limits::NODES;
+pub use limits::PADDING;
 pub use pairs::pairs_hold;
 pub use tests::Search;
 pub use tests::first_wrong;

@@ -9,5 +9,5 @@ pub struct Limits {
 // How many nodes there can be, for every judge.
 pub const NODES: usize = 64;
 
-// How many bytes of padding there can be between two sections.
-pub(crate) const PADDING: usize = 3;
+// How many bytes of padding there can be between two sections, likewise.
+pub const PADDING: usize = 3;

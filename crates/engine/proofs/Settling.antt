@@ -1,10 +1,11 @@
 -- A binder from its call to its end: it begins with the old table or with approximant 0, from both of which the iterates of its body rise to the
 -- fixed point; they stand still after n × 2^n rounds at the latest, and where they do they are the fixed point.
-use Prim.Native.Nat.{ℕ, suc, _-_, _*_, _^_, _<_}
+use Prim.Native.Nat.{ℕ, suc, _-_, _*_, _^_, _≤_, _<_}
 use mathlib.Core.Bool.{Bool, true, false, not, cond}
 use mathlib.Core.List.{List}
 use mathlib.Core.Logic.{⊎-elim}
 use mathlib.Core.Path.{_≡_, refl, sym, ap, _∙_, subst}
+use native.Mathlib.Nat.{mul-le-mul-right}
 use native.Mathlib.Decide.{ℕ-discrete}
 use native.Mathlib.Omega.{arith}
 use borrow.Author.Tests.{eq-eqb, ne-eqb}
@@ -30,7 +31,7 @@ use Rattle.case_model.specs.Kinds.{kindAt}
 use Rattle.case_reader.specs.NodeKinds.{lineOf}
 use Rattle.case_reader.specs.Read.{triple}
 use Rattle.case_plan.specs.Plans.{Plan, tableOf, nodesOf, meaning, Sound}
-use Rattle.tables.proofs.Sizes.{set-all}
+use Rattle.tables.proofs.Sizes.{set-all, size-some}
 use Rattle.engine.specs.declared.refresh.Binder.{Binder}
 use Rattle.engine.specs.Blocks.{block, Kept, env, Right, RightAt}
 use Rattle.engine.specs.Dependence.{Only, asBound, Settled}
@@ -56,6 +57,11 @@ other-kind p j {t} r k e n d v b q = go k (sym (known p j r {k = k} {k′ = k} e
     go kind.Variable z n = let w : _≡_ {A = ℕ} 0 1 = cc in omega arith
     go (kind.Two o) z n = let w : _≡_ {A = ℕ} 0 1 = cc in omega arith
     go (kind.Binder d) z n = n d refl
+
+-- ---- the limit
+-- with at most 16 states it is far below the largest number
+pub limit-small : {p : Plan} → Sound p → p .limit ≤ 1048576
+limit-small {p} S = omega (arith, S .limit, size-some (S .sized) .1, mul-le-mul-right {m = p .states} {n = 16} (p .size) (S .sized .few))
 
 -- ---- the two directions
 direction-known : (d : Bool) → anew < direction d
@@ -136,7 +142,7 @@ module _ {p : Plan} {w w₀ : List ℕ} {act grown : ℕ} (x : Binder) (d : Bool
   }
 
   -- ---- to the end
-  module _ {z : List ℕ} {r : ℕ} (I : Iterated p w₀ z x act (p .limit) r) where
+  module _ {z : List ℕ} {most r : ℕ} (enough : p .states * p .size < most) (I : Iterated p w₀ z x act most r) where
     -- the iterates, by the functions at the call
     abbrev iter : ℕ → Fun
     iter i = iterate (body p (env p act w) x) (block p w₀ (x .node)) i
@@ -150,10 +156,10 @@ module _ {p : Plan} {w w₀ : List ℕ} {act grown : ℕ} (x : Binder) (d : Bool
     now : Agree (p .states) (block p z (x .node)) (iter r)
     now = subst (λ (A : ℕ → Fun). Agree (p .states) (block p z (x .node)) (A r)) by-call (I .now)
 
-    -- the limit is above the rounds that they take
+    -- there may be more than the rounds that they take
     end : Still p w₀ z x act r
     end = ⊎-elim
-        (λ m. absurd (moved (p .states * 2 ^ p .states) (omega (arith, S .limit, ap (λ k. p .states * k) (S .sized .size)))
+        (λ m. absurd (moved (p .states * 2 ^ p .states) (omega (arith, enough, ap (λ k. p .states * k) (S .sized .size)))
         (settled d steady rising (p .states * 2 ^ p .states) (omega arith))))
         (λ s. s)
         (I .ends)

@@ -65,7 +65,9 @@ pub(crate) fn compute(work: &mut [u16], plan: &Plan, j: usize, act: u32, grown: 
         variable: x.1,
         body: x.2,
     };
-    rounds(work, plan, binder, act, direction(least), plan[LIMIT])
+    // The round that changes nothing comes after as many as there can be.
+    let most = plan[LIMIT] + 1;
+    rounds(work, plan, binder, act, direction(least), most)
 }
 
 // Rounds of a binder from the table that it has, which moves in the direction `way`, until one changes nothing, but at most so many.

@@ -8,7 +8,8 @@ use Rattle.flc.specs.Sets.{both, either, implies, forAll, forSome, among
 use Rattle.flc.specs.Functions.{contained, below, monotone, agree, forAllFun, forSomeFun, meet, join, approximant, rounds}
 use Rattle.flc.specs.Formula.{Table, top, bottom, tau, prop, nprop, modal, or, and, chop, Formula, atom, var, op, fix}
 use Rattle.flc.specs.Formula.{stepsBy, meanAtom, put, mean, none, free}
-use Rattle.flc.specs.Nodes.{Node, leaf, bind, lower, formulaAt, roundsOf, roundsAt}
+use Rattle.flc.specs.Nodes.{Node, leaf, bind, Names, lower, formulaAt, roundsOf, roundsAt}
+use Rattle.flc.specs.Own.{ownBelow, own}
 use Rattle.flc.specs.Vocabulary.{onlyProps, onlyActs, vocabulary, reduct}
 use Rattle.flc.specs.Bisimulation.{met, matching, bisimilar, bisimulation, alike}
 
@@ -195,6 +196,11 @@ rounds-counted : roundsAt still rule 1 ≡ 1
 unfolding still rule roundsAt roundsOf lower rounds first agree approximant setOf forAll both mean meanAtom
 rounds-counted = refl
 
+-- n × 2^n are reached: μZ.τ or Z;tt on one state takes 2
+rounds-most : rounds true 1 (λ f. mean still (op or (atom tau) (op chop (var 0) (atom top))) (put none 0 f)) ≡ 2
+unfolding still rounds first agree approximant setOf forAll both either has mean meanAtom put
+rounds-most = refl
+
 rounds-no-binder : roundsAt still rule 0 ≡ 0
 unfolding rule roundsAt roundsOf
 rounds-no-binder = refl
@@ -202,6 +208,20 @@ rounds-no-binder = refl
 rule-tree : formulaAt rule 1 ≡ fix true 0 (atom tau)
 unfolding rule formulaAt lower
 rule-tree = refl
+
+-- a binder names its body, and not the node that has its variable's number
+body-named : Names (bind true 0 3) 3
+body-named = refl
+
+-- νY.μX.Y: the own fixed point of X is all states, as Y's is
+nested : ℕ → Node
+nested zero = leaf (var 1)
+nested (suc zero) = bind true 0 0
+nested (suc (suc j)) = bind false 1 1
+
+own-nested : own still nested 3 0 0 ≡ 1
+unfolding still nested own ownBelow formulaAt lower mean put none meet join forAllFun forSomeFun monotone below contained has setOf forAll both implies
+own-nested = refl
 
 -- ---- what is looked at
 

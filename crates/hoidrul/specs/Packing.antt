@@ -1,5 +1,6 @@
 -- Replies as one number, for callers in other languages; include/hoidrul.h says the same in C.
-use Prim.Native.Nat.{ℕ, _+_, _*_, _^_, _≤_, _<_}
+use Prim.Native.Nat.{ℕ, _+_, _*_, _^_, _<_}
+use mathlib.Core.Path.{_≡_}
 use Rattle.case_model.specs.Judging.{Verdict}
 use Rattle.case_model.specs.Replies.{Reply, answers, refuses, Counts}
 
@@ -27,13 +28,20 @@ verdictWord v = v .set + v .rounds * 2 ^ 16
 abbrev pub itself : ℕ → ℕ
 itself n = n
 
--- ---- what the private functions ask for: the parts of a reply do not overlap in its word
+-- ---- a reply fits: its parts do not overlap in its word, and only a refusal has bit 63
 abbrev pub Fits : {A : Type 0} → (A → Type 0) → Reply A → Type 0
 Fits P (answers a) = P a
 Fits P (refuses k p) = p < 2 ^ 32
 
-abbrev pub Brief : Verdict → Type 0
-Brief v = v .rounds ≤ 1048576
+abbrev pub Few : Counts → Type 0
+Few c = (c .states < 2 ^ 16) × (c .nodes < 2 ^ 47)
 
-abbrev pub Any : ℕ → Type 0
-Any n = Unit {0}
+abbrev pub Brief : Verdict → Type 0
+Brief v = (v .set < 2 ^ 16) × (v .rounds < 2 ^ 47)
+
+abbrev pub Short : ℕ → Type 0
+Short n = n < 2 ^ 63
+
+-- replies that fit and have one word are one reply
+abbrev pub Determined : {A : Type 0} → (A → ℕ) → (A → Type 0) → Type 0
+Determined {A} word P = (r s : Reply A) → Fits P r → Fits P s → packed word r ≡ packed word s → r ≡ s

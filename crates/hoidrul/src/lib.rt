@@ -8,7 +8,7 @@ ghost use Rattle.case_model.specs.Merging.{classing, merging};
 ghost use Rattle.case_model.specs.Rewriting.{rewriting};
 ghost use Rattle.case_file.specs.EnumNumbers.{number, writtenReply};
 ghost use Rattle.judge.specs.EnumNumbers.{judgedReply};
-ghost use Rattle.hoidrul.specs.Packing.{packed, countsWord, refusalWord, spanWord, verdictWord, itself, Fits, Brief, Any};
+ghost use Rattle.hoidrul.specs.Packing.{packed, countsWord, refusalWord, spanWord, verdictWord, itself, Fits, Brief, Short};
 use case_file::Refusal;
 use case_file::Vetted;
 use case_file::Written;
@@ -59,7 +59,7 @@ fn verdict_word(judged: Judged) -> u64
 }
 
 fn count_word(written: Written) -> u64
-    requires { ⌜ Fits Any (writtenReply written) ⌝ }
+    requires { ⌜ Fits Short (writtenReply written) ⌝ }
     ensures { λ r. ⌜ r ≡ packed itself (writtenReply written) ⌝ }
 {
     match written {

@@ -20,7 +20,7 @@ use Rattle.case_model.specs.Judging.{verdict, judging}
 use Rattle.case_model.specs.Run.{everyStart, startsHold}
 use Rattle.drives.specs.Drives.{Right, drives}
 use Rattle.drives.proofs.Computed.{drives-right}
-use Rattle.judge_case.specs.Printed.{numeral, lines, verdictLines, refusalLine, printed, page}
+use Rattle.judge_case.specs.Printed.{numeral, lines, verdictLines, refusalLine, printed, words, page}
 use Rattle.judge_case.proofs.Pages.{refused-page}
 
 -- case F, whose root is 9, with any root
@@ -37,12 +37,12 @@ right : Right (record { file = caseF 9; rounds = 2 ∷ []; values = (3, 3) ∷ (
 unfolding drives
 right = drives-right .0
 
-judged : judging (caseF 9) 3 32768 ≡ answers (record { set = 3; rounds = 2 })
+judged : judging (caseF 9) 3 words ≡ answers (record { set = 3; rounds = 2 })
 unfolding judging verdict section listOf
 judged = rw (right .accepted, right .gives .0, right .counts .0)
 
 -- "states 2", "rounds 2", "0 yes", "1 yes", "starts yes"
-pub print-F : page (caseF 9) 32768
+pub print-F : page (caseF 9)
     ≡ 115 ∷ 116 ∷ 97 ∷ 116 ∷ 101 ∷ 115 ∷ 32 ∷ 50 ∷ 10
     ∷ 114 ∷ 111 ∷ 117 ∷ 110 ∷ 100 ∷ 115 ∷ 32 ∷ 50 ∷ 10
     ∷ 48 ∷ 32 ∷ 121 ∷ 101 ∷ 115 ∷ 10
@@ -57,15 +57,15 @@ unfolding first refusals pairsHold chained padding section listOf lowest forAll 
 open-root = refl
 
 -- so the print is "refused 7 0"
-pub print-7 : page (caseF 4) 32768 ≡ 114 ∷ 101 ∷ 102 ∷ 117 ∷ 115 ∷ 101 ∷ 100 ∷ 32 ∷ 55 ∷ 32 ∷ 48 ∷ 10 ∷ []
+pub print-7 : page (caseF 4) ≡ 114 ∷ 101 ∷ 102 ∷ 117 ∷ 115 ∷ 101 ∷ 100 ∷ 32 ∷ 55 ∷ 32 ∷ 48 ∷ 10 ∷ []
 unfolding refusalLine numeral first
-print-7 = refused-page (caseF 4) 32768 7 0 open-root
+print-7 = refused-page (caseF 4) 7 0 open-root
 
 -- clause 9.4: "refused 1 0"
-pub print-longer : (f : List ℕ) (words : ℕ) → standard .longest < length f
-    → page f words ≡ 114 ∷ 101 ∷ 102 ∷ 117 ∷ 115 ∷ 101 ∷ 100 ∷ 32 ∷ 49 ∷ 32 ∷ 48 ∷ 10 ∷ []
+pub print-longer : (f : List ℕ) → standard .longest < length f
+    → page f ≡ 114 ∷ 101 ∷ 102 ∷ 117 ∷ 115 ∷ 101 ∷ 100 ∷ 32 ∷ 49 ∷ 32 ∷ 48 ∷ 10 ∷ []
 unfolding refusalLine numeral first refusals pairsHold
-print-longer f words h =
+print-longer f h =
     let not-short = le-leb (4 * sections) (length f) (omega arith) in
     let too-long = lt-leb (length f) (standard .longest) h in
-    refused-page f words 1 0 (rw (not-short, too-long))
+    refused-page f 1 0 (rw (not-short, too-long))

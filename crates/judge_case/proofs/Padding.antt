@@ -9,12 +9,12 @@ use Rattle.case_model.specs.Judging.{judging}
 use Rattle.case_model.specs.Padding.{PaddingAside}
 use Rattle.case_model.specs.Run.{allStates, inAnswer, holds, everyStart, startsHold}
 use Rattle.case_model.proofs.Padding.{read-same, padding-aside}
-use Rattle.judge_case.specs.Printed.{printed, page}
+use Rattle.judge_case.specs.Printed.{printed, words, page}
 
 -- clauses 1.17 and 9.1
-pub page-aside : {f g : List ℕ} → PaddingAside f g → (words : ℕ) → page f words ≡ page g words
+pub page-aside : {f g : List ℕ} → PaddingAside f g → page f ≡ page g
 unfolding page startsHold holds
-page-aside {f} {g} p words =
+page-aside {f} {g} p =
     let replies : judging f (allStates (read f)) words ≡ judging g (allStates (read g)) words =
     padding-aside p .judged (allStates (read f)) words ∙ ap (λ (c : Case). judging g (allStates c) words) (read-same p) in
     λ z. let c : Case = read-same p z in printed (length (c .labels)) (everyStart c (inAnswer (replies z))) (replies z)

@@ -14,7 +14,7 @@ use Rattle.case_model.specs.Judging.{Verdict, verdict, row9, judging}
 use Rattle.case_model.specs.Run.{allStates, inAnswer, holds, everyStart, startsHold}
 use Rattle.case_model.proofs.Sections.{left-sound}
 use Rattle.case_model.proofs.Valid.{accepted-valid}
-use Rattle.judge_case.specs.Printed.{refusalLine, printed, page}
+use Rattle.judge_case.specs.Printed.{refusalLine, printed, words, page}
 
 -- only an accepted case is answered
 pub judged-few : (f : List ℕ) (x words : ℕ) {v : Verdict} → answers v ≡ judging f x words → length (read f .labels) ≤ mostStates
@@ -34,14 +34,14 @@ all-judged f x words a = go (refusals standard f) refl
     go (refused k p) h = rw h
 
 -- the print of a file is that of judging's reply on such a set
-pub judged-page : (f : List ℕ) (words n x : ℕ) {r : Reply Verdict} → n ≡ length (read f .labels)
-    → (n ≤ mostStates → x ≡ setOf n (λ s. true)) → r ≡ judging f x words → printed n (everyStart (read f) (inAnswer r)) r ≡ page f words
+pub judged-page : (f : List ℕ) (n x : ℕ) {r : Reply Verdict} → n ≡ length (read f .labels)
+    → (n ≤ mostStates → x ≡ setOf n (λ s. true)) → r ≡ judging f x words → printed n (everyStart (read f) (inAnswer r)) r ≡ page f
 unfolding page startsHold holds
-judged-page f words n x l a h =
+judged-page f n x l a h =
     let e = h ∙ all-judged f x words (subst (λ k. k ≤ mostStates → x ≡ setOf k (λ s. true)) l a) in
     λ z. printed (l z) (everyStart (read f) (inAnswer (e z))) (e z)
 
 -- the page of a file that one of rows 1 to 7 refuses
-pub refused-page : (f : List ℕ) (words k p : ℕ) → refusals standard f ≡ refused k p → page f words ≡ refusalLine k p
+pub refused-page : (f : List ℕ) (k p : ℕ) → refusals standard f ≡ refused k p → page f ≡ refusalLine k p
 unfolding page judging
-refused-page f words k p e = rw e
+refused-page f k p e = rw e

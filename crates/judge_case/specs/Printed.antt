@@ -68,9 +68,13 @@ abbrev pub printed : ℕ → Bool → Reply Verdict → List ℕ
 printed n all (answers v) = verdictLines n all v
 printed n all (refuses k p) = refusalLine k p
 
+-- clause 9.1: how many words the work area has
+abbrev pub words : ℕ
+words = 32768
+
 -- clause 9.1: the print of a file, judged on all its states with so many words
-unfoldable pub page : List ℕ → ℕ → List ℕ
-page f words = printed (length (read f .labels)) (startsHold f words) (judging f (allStates (read f)) words)
+unfoldable pub page : List ℕ → List ℕ
+page f = printed (length (read f .labels)) (startsHold f words) (judging f (allStates (read f)) words)
 
 -- ---- a page of text in the code
 abbrev pub text : Page → List ℕ

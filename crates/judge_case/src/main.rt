@@ -10,7 +10,7 @@ ghost use Rattle.case_model.specs.Case.{read};
 ghost use Rattle.case_model.specs.Run.{everyStart};
 ghost use Rattle.case_file.specs.EnumNumbers.{number};
 ghost use Rattle.judge.specs.EnumNumbers.{answer};
-ghost use Rattle.judge_case.specs.Printed.{yesOrNo, numeral, line, verdictLines, refusalLine, page, Shows, Grew, Blank};
+ghost use Rattle.judge_case.specs.Printed.{yesOrNo, numeral, line, verdictLines, refusalLine, words, page, Shows, Grew, Blank};
 use case_file::Case;
 use case_file::Refusal;
 use case_reader::start;
@@ -149,7 +149,8 @@ fn verdict_page(states: usize, starts: bool, verdict: Verdict) -> Page
 
 // What is printed of a file, judged on all its states.
 fn page_of(file: &[u8], work: &mut [u16]) -> Page
-    ensures { λ r. ⌜ Shows r (page (now (file .entry)) (length (now (work .entry)))) ⌝ }
+    requires { ⌜ length (now work) ≡ words ⌝ }
+    ensures { λ r. ⌜ Shows r (page (now (file .entry))) ⌝ }
 {
     let n = state_count(file);
     let judged = judge::judge(file, all_states(n), work);
@@ -159,10 +160,13 @@ fn page_of(file: &[u8], work: &mut [u16]) -> Page
     }
 }
 
+// How many words the program lends judging.
+const WORDS: usize = 32768;
+
 fn main() {
     // The byte past the longest case tells a longer input, which is refused as 1.
     let mut buffer = [0u8; Case::LONGEST + 1];
-    let mut work = [0u16; 32768];
+    let mut work = [0u16; WORDS];
     let length = io::read_full(0, &mut buffer);
     let page = page_of(&buffer[..length], &mut work);
     let bytes = page.bytes;

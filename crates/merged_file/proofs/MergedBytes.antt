@@ -134,7 +134,7 @@ module _ {f : List ℕ} {p : Pair} {rows : List ℕ} {set : ℕ} {z : Sizes} (m 
 
   -- each part lies within the file, and the sizes are small
   pub record Within : Type 0 where
-    pub first : offset f 0 + length (read f .labels) < length f
+    pub first : offset f 0 + length (read f .labels) + 2 ≤ length f
     pub last : offset f 2 + size f 2 ≤ length f
     pub few : length (read f .labels) ≤ 16
     pub steps-few : length (inOrder 2048 (relation rows)) ≤ 2048
@@ -145,8 +145,9 @@ module _ {f : List ℕ} {p : Pair} {rows : List ℕ} {set : ℕ} {z : Sizes} (m 
   fits =
       let ok = accepted-pairs standard f (m .named .accepted) in
       let one = rule-whole standard f (m .named .accepted) in
+      let node : 1 ≤ size f 2 / 3 = omega (arith, nodes-length f, valid .rule .root) in
       record {
-        first = omega (arith, section-after standard f ok 0 2 (omega arith) (omega arith), within standard f ok 2 (omega arith), section-length f 0, one);
+        first = omega (arith, section-after standard f ok 0 2 (omega arith) (omega arith), within standard f ok 2 (omega arith), section-length f 0, node);
         last = within standard f ok 2 (omega arith);
         few = valid .table .few;
         steps-few = order-few (relation rows) 2048;

@@ -1,5 +1,5 @@
-// The step relation of the merged case, as the rows of case_reader's table: bit t of row 8s + a is the step (s, a, t), which is bit x % 16 of row x / 16 for the
-// triple with the number x. Each loop reads that row itself: handed to a function, the rows would be copied at each of 2,048 turns.
+// The step relation of the merged case, as the rows of case_reader's table: bit t of row 8s + a is the step (s, a, t), which is bit x % 16 of row x / 16 for
+// the triple with the number x. Each loop reads that row itself: handed to a function, the rows would be copied at each of 2,048 turns.
 ghost use mathlib.Core.Path.{_≡_};
 ghost use Prim.Native.Nat.{_+_, _*_, _/_, _%_, _≤_, _<_, min, max};
 ghost use lib.ListN.{length};

@@ -2,7 +2,7 @@
 use borrow.Author.Needs.{needs}
 use mathlib.Core.Path.{subst}
 use Rattle.case_file.specs.EnumNumbers.{writtenReply}
-use Rattle.hoidrul.specs.Packing.{Fits, Any}
+use Rattle.hoidrul.specs.Packing.{Fits, Short}
 use Rattle.hoidrul.proofs.count_word.Statement.{statement}
 use Rattle.hoidrul.proofs.count_word.Tie as tie
 
@@ -13,7 +13,7 @@ enum-known-written-2 : tie.Need-enum-known-written-2
 enum-known-written-2 c = search needs
 
 refused-requires : tie.Need-refused-requires
-refused-requires c κs = subst (λ x. Fits Any (writtenReply x)) (c .before .written2 .given .1) (c .before .before .before .pre)
+refused-requires c κs = subst (λ x. Fits Short (writtenReply x)) (c .before .written2 .given .1) (c .before .before .before .pre)
 
 returns : tie.Need-returns
 returns c = search needs

@@ -1,5 +1,6 @@
 -- `hoidrul::hoidrul_open` meets its contract: the section's pair where vetting answers, and 0 where it refuses.
 use borrow.Author.Needs.{needs}
+use mathlib.Core.Path.{refl}
 use Rattle.case_reader.proofs.Readers.{there}
 use Rattle.case_file.proofs.Opening.{opens, refuses}
 use Rattle.hoidrul.proofs.hoidrul_open.Statement.{statement}
@@ -42,7 +43,7 @@ returns-2 c =
     let start = at-vet .before .before in
     let a = start .args in
     let o = opens (a .file .now) (a .section) (v .enum-told .given .0 .0) (v .enum-told .given .1) (at-vet .vet .ensures) in
-    rw (o .at, o .long, there (o .number) _ (c .before .section-offset .ensures .is), there (o .number) _ (c .section-size .ensures .is))
+    rw (o .at, o .long, there (o .number) _ (c .before .section-offset .ensures .is), there (o .number) _ (c .section-size .ensures .is)) refl
 
 pub hoidrul-open-spec : {M : Type 1} → statement M
 hoidrul-open-spec =

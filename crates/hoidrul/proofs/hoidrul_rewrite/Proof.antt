@@ -2,7 +2,7 @@
 use borrow.Author.Needs.{needs}
 use native.Mathlib.Omega.{arith}
 use mathlib.Core.Path.{sym, ap, subst, _∙_}
-use Rattle.hoidrul.specs.Packing.{Fits, Any, packed, itself}
+use Rattle.hoidrul.specs.Packing.{Fits, Short, packed, itself}
 use Rattle.hoidrul.proofs.Words.{rewriting-fits}
 use Rattle.hoidrul.proofs.hoidrul_rewrite.Statement.{statement}
 use Rattle.hoidrul.proofs.hoidrul_rewrite.Tie as tie
@@ -15,7 +15,7 @@ count-word-requires c κs =
     let at-rewrite = c .before .before in
     let s = at-rewrite .before .before .before in
     let start = s .before in
-    subst (Fits Any) (sym (at-rewrite .rewrite .ensures .says))
+    subst (Fits Short) (sym (at-rewrite .rewrite .ensures .says))
     (rewriting-fits (start .args .file .now) (λ i. omega (arith, s .shared-slice-known .given i)) _ _ _)
 
 same-length : tie.Need-same-length

@@ -1,8 +1,10 @@
 -- `hoidrul::hoidrul_vet` meets its contract, by cases on vetting's answer.
 use borrow.Author.Needs.{needs}
-use denote.Ref.{now}
+use mathlib.Core.Path.{refl, sym, subst}
 use native.Mathlib.Omega.{arith}
-use Rattle.case_file.proofs.Answers.{case-small, vetted-small}
+use Rattle.case_file.specs.EnumNumbers.{vettedReply, countsOf}
+use Rattle.hoidrul.specs.Packing.{Fits, Few}
+use Rattle.hoidrul.proofs.Words.{vetting-fits}
 use Rattle.hoidrul.proofs.hoidrul_vet.Statement.{statement}
 use Rattle.hoidrul.proofs.hoidrul_vet.Tie as tie
 
@@ -18,37 +20,32 @@ states-requires c κs = search needs
 nodes-requires : tie.Need-nodes-requires
 nodes-requires c κs = search needs
 
+-- vetting's answer fits
+fits : (c : tie.After-vet) → Fits Few (vettedReply (c .vet .result))
+fits c =
+    let s = c .before in
+    let a = s .before .args in
+    subst (Fits Few) (sym (c .vet .ensures)) (vetting-fits (a .file .now) (λ i. omega (arith, s .shared-slice-known .given i)) (a .section))
+
+few : (c : tie.After-vetted) → Few (countsOf (c .vetted .given .0 .0))
+few c = subst (λ v. Fits Few (vettedReply v)) (c .vetted .given .1) (fits (c .before .before))
+
 mul-result : tie.Need-mul-result
-mul-result c =
-    let v = c .before .before .before in
-    let at-vet = v .before .before in
-    let a = at-vet .before .before .args in
-    let small = case-small (now (a .file)) (a .section) (v .vetted .given .0 .0) (v .vetted .given .1) (at-vet .vet .ensures) in
-    omega (arith, c .nodes .ensures, small)
+mul-result c = omega (arith, c .nodes .ensures, few (c .before .before .before))
 
 add-result : tie.Need-add-result
-add-result c =
-    let v = c .before .before .before in
-    let at-vet = v .before .before in
-    let a = at-vet .before .before .args in
-    let small = case-small (now (a .file)) (a .section) (v .vetted .given .0 .0) (v .vetted .given .1) (at-vet .vet .ensures) in
-    omega (arith, c .nodes .ensures, c .before .states .ensures, small)
+add-result c = omega (arith, c .nodes .ensures, c .before .states .ensures, few (c .before .before .before))
 
 enum-known-vetted-2 : tie.Need-enum-known-vetted-2
 enum-known-vetted-2 c = search needs
 
 refused-requires : tie.Need-refused-requires
-refused-requires c κs =
-    let v = c .before in
-    let s = v .before .before .before in
-    let a = s .before .args in
-    vetted-small (now (a .file)) (λ i. omega (arith, s .shared-slice-known .given i)) (a .section) (v .vetted2 .given .0 .0) (v .vetted2 .given .1)
-    (v .before .before .vet .ensures)
+refused-requires c κs = let v = c .before in subst (λ v. Fits Few (vettedReply v)) (v .vetted2 .given .1) (fits (v .before .before))
 
 returns : tie.Need-returns
 returns c =
     let v = c .before .before .before in
-    rw (← v .before .before .vet .ensures, v .vetted .given .1, c .nodes .ensures, c .before .states .ensures)
+    rw (← v .before .before .vet .ensures, v .vetted .given .1, c .nodes .ensures, c .before .states .ensures) refl
 
 returns-2 : tie.Need-returns-2
 returns-2 c =

@@ -1,5 +1,6 @@
 -- `hoidrul::refused` meets its contract: the parts of the word do not overlap.
 use borrow.Author.Needs.{needs}
+use mathlib.Core.Path.{refl}
 use native.Mathlib.Omega.{arith}
 use Rattle.case_file.proofs.Answers.{number-small}
 use Rattle.hoidrul.proofs.refused.Statement.{statement}
@@ -18,7 +19,7 @@ add-result-2 : tie.Need-add-result-2
 add-result-2 c = omega (arith, number-small (c .before .args .refusal .reason), c .number .ensures)
 
 returns : tie.Need-returns
-returns c = rw (c .number .ensures)
+returns c = rw (c .number .ensures) refl
 
 pub refused-spec : {M : Type 1} → statement M
 refused-spec = tie.close (tie.spec number-requires mul-result add-result add-result-2 returns)

@@ -2,8 +2,8 @@
 -- and only an accepted case, which has at most 16 states, is answered.
 use mathlib.Core.Path.{_≡_, sym, ap, _∙_}
 use native.Mathlib.Omega.{arith}
-use lib.ListN.{length}
 use Rattle.case_model.specs.Case.{read}
+use Rattle.case_model.specs.Judging.{judging}
 use Rattle.case_model.specs.Run.{inAnswer, everyStart}
 use Rattle.judge.specs.EnumNumbers.{judgedReply}
 use Rattle.judge.specs.declared.entry.Judged.{Judged}
@@ -28,10 +28,11 @@ start-of c = let at-count = count-of c in at-count .before .before .before
 found-page : (c : tie.After-judge) {found : Judged} → c .judge .result ≡ found
     → let a = start-of c .args in
     printed (count-of c .state-count .result) (everyStart (read (a .file .now)) (inAnswer (judgedReply found))) (judgedReply found)
-    ≡ page (a .file .now) (length (a .work .now))
+    ≡ page (a .file .now)
 found-page c e =
     let at-all = c .before .before in
-    judged-page _ _ _ _ (count-of c .state-count .ensures .is) (at-all .all-states .ensures) (sym (ap judgedReply e) ∙ c .judge .ensures .0)
+    judged-page _ _ _ (count-of c .state-count .ensures .is) (at-all .all-states .ensures)
+    (sym (ap judgedReply e) ∙ c .judge .ensures .0 ∙ ap (judging _ _) (start-of c .pre))
 
 state-count-requires : tie.Need-state-count-requires
 state-count-requires c κs = search needs

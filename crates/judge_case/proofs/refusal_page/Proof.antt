@@ -2,7 +2,8 @@
 -- and a numeral has at most 20 digits, so that there is room for them.
 use Prim.Native.Nat.{_≤_}
 use native.Mathlib.Omega.{arith}
-use Rattle.judge_case.specs.Printed.{space, refusalLine}
+use Rattle.judge_case.specs.Printed.{space, line, refusalLine}
+use Rattle.case_model.specs.Areas.{Laid}
 use Rattle.case_model.proofs.Laying.{laid-after}
 use Rattle.judge_case.proofs.Texts.{numeral-short, line-short, shows}
 use borrow.Author.Needs.{needs}
@@ -50,9 +51,12 @@ returns c =
     let at-new = new-of at-text in
     let at-reason = at-new .before in
     let place = line-short space (at-reason .before .args .refusal .place) in
+    let before = at-number .number2 .result in
+    let after = c .line .result in
+    let last : Laid (before .bytes) (after .bytes) (before .length) (after .length) (line space (at-reason .before .args .refusal .place)) = c .line .ensures in
     rw (← at-reason .number .ensures)
     (shows (at-new .new .ensures)
-    (laid-after (at-text .text .ensures) (laid-after (at-number .number2 .ensures) (c .line .ensures)))
+    (laid-after (at-text .text .ensures) (laid-after (at-number .number2 .ensures) last))
     (omega (arith, number-short at-number, c .line .ensures .ends, place)))
 
 pub refusal-page-spec : {M : Type 1} → statement M

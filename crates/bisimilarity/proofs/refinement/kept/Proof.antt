@@ -1,6 +1,9 @@
 -- `bisimilarity::refinement::kept` meets its contract, by cases on whether the pair is related.
+use mathlib.Core.Path.{_≡_}
 use borrow.Author.Needs.{needs}
+use Rattle.flc.specs.Bisimulation.{met}
 use Rattle.flc.specs.Sets.{both}
+use Rattle.bisimilarity.specs.Graphs.{tableOf}
 use Rattle.bisimilarity.specs.Relations.{related, kept}
 use Rattle.bisimilarity.proofs.refinement.kept.Statement.{statement}
 use Rattle.bisimilarity.proofs.refinement.kept.Tie as tie
@@ -20,9 +23,13 @@ met-requires c κs = search needs
 met-requires-2 : tie.Need-met-requires-2
 met-requires-2 c κs = search needs
 
+-- the second call asks whether the steps of t are met
+back : (c : tie.After-met2) → let a = c .before .before .before .before .args in c .met2 .result ≡ met (tableOf (a .graph)) (related (a .t2)) (a .t) (a .s)
+back c = c .met2 .ensures
+
 returns : tie.Need-returns
 unfolding kept both related
-returns c = rw (← c .before .before .before .member .ensures, c .before .before .if1 .taken, c .met2 .ensures, c .before .met .ensures)
+returns c = rw (← c .before .before .before .member .ensures, c .before .before .if1 .taken, back c, c .before .met .ensures)
 
 returns-2 : tie.Need-returns-2
 unfolding kept both related

@@ -1,11 +1,11 @@
 -- `case_file::entries::open` meets its contract: the part is the section where vetting answers, and empty where it refuses.
 use borrow.Author.Needs.{needs}
 use native.Mathlib.Omega.{arith}
-use native.Mathlib.Nat.{add-sub-cancel-left, add-zero, add-comm}
+use native.Mathlib.Nat.{add-zero, add-comm}
 use mathlib.Core.Path.{refl, sym}
 use lib.Seq.{length-take-le}
 use Rattle.case_reader.proofs.Readers.{there}
-use Rattle.case_file.proofs.Opening.{Opens, opens, refuses}
+use Rattle.case_file.proofs.Opening.{Opens, opens, cut, refuses}
 use Rattle.case_file.proofs.entries.open.Statement.{statement}
 use Rattle.case_file.proofs.entries.open.Tie as tie
 
@@ -52,10 +52,14 @@ add-end : tie.Need-add-end
 add-end c = search needs
 
 sub-result : tie.Need-sub-result
-sub-result c = search needs
+sub-result c =
+    let o = at-told (c .before .before) in
+    omega (arith, o, there (o .number) _ (c .before .section-offset .ensures .is))
 
 part-result-start : tie.Need-part-result-start
-part-result-start c = search needs
+part-result-start c =
+    let o = at-told (c .before .before) in
+    omega (arith, o, there (o .number) _ (c .before .section-offset .ensures .is))
 
 part-result-end : tie.Need-part-result-end
 part-result-end c =
@@ -67,7 +71,7 @@ returns-2 c =
     let o = at-told (c .before .before .before) in
     let start = there (o .number) _ (c .before .before .section-offset .ensures .is) in
     record {
-      bytes = rw (add-sub-cancel-left, start, there (o .number) _ (c .before .section-size .ensures .is)) (sym (o .is));
+      bytes = cut o start (omega (arith, there (o .number) _ (c .before .section-size .ensures .is)));
       block = refl;
       place = rw (o .at, start, add-comm);
     }

@@ -37,7 +37,7 @@ array-write-plan c = search needs
 array-write-plan-2 : tie.Need-array-write-plan-2
 array-write-plan-2 c = search needs
 
--- there are few states, so that the limit is at most 16 · 2^16 + 1
+-- there are few states, so that the limit is at most 16 · 2^16
 at-few : (c : tie.After-state-count) → c .state-count .result ≤ 16
 at-few c = omega (arith, c .before .before .pre .table .few, c .state-count .ensures .is)
 
@@ -50,9 +50,6 @@ at-limit c =
 
 mul-plan : tie.Need-mul-plan
 mul-plan c = let at-root = c .before .before .before in omega (arith, at-limit (at-root .before .before))
-
-add-plan : tie.Need-add-plan
-add-plan c = let at-root = c .before .before .before in omega (arith, at-limit (at-root .before .before))
 
 array-write-plan-3 : tie.Need-array-write-plan-3
 array-write-plan-3 c = search needs
@@ -72,7 +69,7 @@ put-scopes-requires c κs = search needs
 -- the words that stand before the parts
 at-begin : (c : tie.After-step-rows) → let at-root = c .before .before .before in let at-states = at-root .before .before in
     let n = at-states .state-count .result in let s = (1 * 2 ^ n) % 2 ^ 64 in
-    Begun (read (at-states .before .before .args .file .now)) (headed n s (n * s + 1) (at-root .root .result) (at-root .before .node-count .result))
+    Begun (read (at-states .before .before .args .file .now)) (headed n s (n * s) (at-root .root .result) (at-root .before .node-count .result))
 at-begin c =
     let at-root = c .before .before .before in
     let at-states = at-root .before .before in
@@ -143,7 +140,6 @@ plan-spec =
     array-write-plan
     array-write-plan-2
     mul-plan
-    add-plan
     array-write-plan-3
     array-write-plan-4
     array-write-plan-5

@@ -9,12 +9,12 @@ use Rattle.case_reader.proofs.bytes.byte.Tie as tie
 shared-slice-read-result : tie.Need-shared-slice-read-result
 shared-slice-read-result c = search needs
 
-cast-result : tie.Need-cast-result
-cast-result c = omega (arith, c .shared-slice-known .given (c .before .before .args .at))
-
 returns : tie.Need-returns
 returns c =
     record { is = refl; small = omega (arith, c .shared-slice-known .given (c .before .before .args .at)) }
+
+cast-result : tie.Need-cast-result
+cast-result c = omega (arith, c .shared-slice-known .given (c .before .before .args .at))
 
 returns-2 : tie.Need-returns-2
 returns-2 c =

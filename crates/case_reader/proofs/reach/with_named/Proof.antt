@@ -68,7 +68,8 @@ returns-4 c =
 returns-5 : tie.Need-returns-5
 returns-5 c =
     let at-told = c .before in
-    c .with3 .ensures ∙ by-found (at-told .before .before) (at-told .enum-told4 .given .1)
+    let a = start-of (at-told .before .before) .args in
+    _∙_ {b = withNode (a .set) (a .x .2)} (c .with3 .ensures) (by-found (at-told .before .before) (at-told .enum-told4 .given .1))
 
 pub with-named-spec : {M : Type 1} → statement M
 with-named-spec =

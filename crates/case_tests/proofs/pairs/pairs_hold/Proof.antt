@@ -1,4 +1,9 @@
 -- `case_tests::pairs::pairs_hold` meets its contract, test by test.
+use Prim.Native.Nat.{_*_}
+use mathlib.Core.Bool.{_&&_}
+use lib.Dec.{eqb, leb}
+use lib.ListN.{length}
+use Rattle.case_model.specs.Limits.{sections}
 use borrow.Author.Needs.{needs}
 use Rattle.case_model.specs.Bytes.{pairsHold}
 use Rattle.case_tests.proofs.pairs.pairs_hold.Statement.{statement}
@@ -18,7 +23,11 @@ chained-requires c κs = search needs
 
 returns : tie.Need-returns
 unfolding pairsHold
-returns c = rw (c .before .section-offset .ensures .is, c .chained .ensures)
+returns c =
+    let a = c .before .before .before .before .args in
+    let all = length (a .file .now) in
+    let start = c .before .section-offset .ensures .is in
+    λ i. leb (4 * sections) all && leb all (a .limits .longest) && eqb (start i) (4 * sections) && c .chained .ensures i
 
 pub pairs-hold-spec : {M : Type 1} → statement M
 pairs-hold-spec =

@@ -1,4 +1,5 @@
 -- `case_tests::tests::start_wrong` meets its contract, test by test.
+use mathlib.Core.Path.{refl}
 use borrow.Author.Needs.{needs}
 use Rattle.case_tests.proofs.tests.start_wrong.Statement.{statement}
 use Rattle.case_tests.proofs.tests.start_wrong.Tie as tie
@@ -20,7 +21,7 @@ returns c =
     let at-before2 = c .before in
     let at-start = at-before2 .before in
     let last = rw (at-before2 .before2 .ensures) at (c .start2 .ensures .is) in
-    rw (at-start .before .state-count .ensures .is, ← at-start .start .ensures .is, ← last)
+    rw (at-start .before .state-count .ensures .is, ← at-start .start .ensures .is, ← last) refl
 
 pub start-wrong-spec : {M : Type 1} → statement M
 start-wrong-spec =

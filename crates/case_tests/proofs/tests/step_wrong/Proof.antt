@@ -1,5 +1,8 @@
 -- `case_tests::tests::step_wrong` meets its contract, test by test.
+use mathlib.Core.Path.{_≡_}
 use borrow.Author.Needs.{needs}
+use Rattle.case_model.specs.Rows.{rises}
+use Rattle.case_reader.specs.Read.{triple}
 use Rattle.case_tests.proofs.tests.step_wrong.Statement.{statement}
 use Rattle.case_tests.proofs.tests.step_wrong.Tie as tie
 
@@ -26,7 +29,8 @@ returns c =
     let at-step = at-before2 .before in
     let at-state-count = at-step .before in
     let last = rw (at-before2 .before2 .ensures) at (at .step2 .ensures .is) in
-    rw (c .rises .ensures, at-state-count .state-count .ensures .is, ← at-step .step .ensures .is, ← last)
+    let order : c .rises .result ≡ rises (triple (at .step2 .result)) (triple (at-step .step .result)) = c .rises .ensures in
+    rw (order, at-state-count .state-count .ensures .is, ← at-step .step .ensures .is, ← last)
 
 pub step-wrong-spec : {M : Type 1} → statement M
 step-wrong-spec =

@@ -1,4 +1,5 @@
 -- `engine::begin::start` meets its contract: by the kind of the binder.
+use mathlib.Core.Path.{refl}
 use borrow.Author.Needs.{needs}
 use Rattle.engine.proofs.begin.start.Statement.{statement}
 use Rattle.engine.proofs.begin.start.Tie as tie
@@ -13,7 +14,7 @@ returns : tie.Need-returns
 returns c = rw (c .if1 .taken)
 
 returns-2 : tie.Need-returns-2
-returns-2 c = rw (c .if1 .left)
+returns-2 c = rw (c .if1 .left) refl
 
 pub start-spec : {M : Type 1} → statement M
 start-spec = tie.close (tie.spec sub-result cast-result returns returns-2)

@@ -19,7 +19,7 @@ use Rattle.engine.proofs.Refreshing.{not-zero, refresh-none, last-there
 use Rattle.engine.proofs.Refreshing.{fillable, computed-plain}
 use Rattle.engine.proofs.Turns.{binds-low, binder-here, body-under, round-refreshable, rounded}
 use Rattle.engine.proofs.Iterating.{Turning, turning-start, turning-roundable, turning-next, iterated-still, iterated-most}
-use Rattle.engine.proofs.Settling.{binder-tag, other-kind, iterable, computed-binder}
+use Rattle.engine.proofs.Settling.{limit-small, binder-tag, other-kind, iterable, computed-binder}
 use borrow.Author.Needs.{needs}
 use borrow.Fn.Kinds.{In}
 use borrow.Fn.PlainCycle.{Measures, is, falls, and}
@@ -121,9 +121,9 @@ abbrev known-of : (t : ℕ) → compute-lts.After-begin (compute-claims t) (comp
     → compute-lts.After-known-told (compute-claims t) (compute-at t) compute.Post
 known-of t c = c .before .before .before
 
-abbrev begin-of : (t : ℕ) → compute-lts.After-direction (compute-claims t) (compute-at t) compute.Post
+abbrev begin-of : (t : ℕ) → compute-lts.After-most (compute-claims t) (compute-at t) compute.Post
     → compute-lts.After-begin (compute-claims t) (compute-at t) compute.Post
-begin-of t c = let at-slice = c .before .before in at-slice .before .before
+begin-of t c = c .before .before .before
 
 -- the node is no binder where the kind is another
 plain-at : (t : ℕ) (c : compute-lts.At-match-keys2 (compute-claims t) (compute-at t) compute.Post) (d : Bool) (v b : ℕ)
@@ -184,35 +184,41 @@ compute-mul-begin t c =
 compute-begin-requires : (t : ℕ) → compute-lts.Need-begin-requires (compute-claims t) (compute-at t) compute.Post
 compute-begin-requires t c κs = room-at t (c .before .before)
 
+compute-element-copy-out-most : (t : ℕ) → compute-lts.Need-element-copy-out-most (compute-claims t) (compute-at t) compute.Post
+compute-element-copy-out-most t c = search needs
+
+compute-add-most : (t : ℕ) → compute-lts.Need-add-most (compute-claims t) (compute-at t) compute.Post
+compute-add-most t c =
+    let st = start-of t (node-of t (known-of t (begin-of t c))) in
+    omega (arith, limit-small (st .pre .1 .ready .sound))
+
 compute-direction-requires : (t : ℕ) → compute-lts.Need-direction-requires (compute-claims t) (compute-at t) compute.Post
 compute-direction-requires t c κs = search needs
 
-compute-element-copy-out-rounds : (t : ℕ) → compute-lts.Need-element-copy-out-rounds (compute-claims t) (compute-at t) compute.Post
-compute-element-copy-out-rounds t c = search needs
-
 compute-rounds-requires : (t : ℕ) → compute-lts.Need-rounds-requires (compute-claims t) (compute-at t) compute.Post
 compute-rounds-requires t c κs =
-    let at-begin = begin-of t (c .before) in
+    let at-begin = begin-of t (c .before .before) in
     let at-known = known-of t at-begin in
     let st = start-of t (node-of t at-known) in
     let B = binder-of t at-known in (
       omega (arith, st .pre .0),
-      subst (Iterable (decoded (st .args .plan .now)) (at-begin .begin .last .0) B (st .args .act)) (sym (c .before .direction .ensures))
+      subst (Iterable (decoded (st .args .plan .now)) (at-begin .begin .last .0) B (st .args .act)) (sym (c .direction .ensures))
           (iterable B (at-known .before .kind .given .0 .0) (st .pre .1) (binder-at t at-known) (at-begin .begin .ensures)),
     )
 
 compute-same-length-2 : (t : ℕ) → compute-lts.Need-same-length-2 (compute-claims t) (compute-at t) compute.Post
 compute-same-length-2 t c =
     let at-rounds = c .before .before in
-    at-rounds .rounds .ensures .kept .long ∙ begin-of t (at-rounds .before .before) .begin .ensures .long
+    at-rounds .rounds .ensures .kept .long ∙ begin-of t (at-rounds .before .before .before) .begin .ensures .long
 
 compute-returns-2 : (t : ℕ) → compute-lts.Need-returns-2 (compute-claims t) (compute-at t) compute.Post
 compute-returns-2 t c =
     let at-rounds = c .before .before in
-    let at-begin = begin-of t (at-rounds .before .before) in
+    let at-begin = begin-of t (at-rounds .before .before .before) in
     let at-known = known-of t at-begin in
-    computed-binder (binder-of t at-known) (at-known .before .kind .given .0 .0) (start-of t (node-of t at-known) .pre .1) (binder-at t at-known)
-    (at-begin .begin .ensures) (at-rounds .rounds .ensures)
+    let C = start-of t (node-of t at-known) .pre .1 in
+    computed-binder (binder-of t at-known) (at-known .before .kind .given .0 .0) C (binder-at t at-known)
+    (at-begin .begin .ensures) (omega (arith, C .ready .sound .limit)) (at-rounds .rounds .ensures)
 
 -- ---- refresh
 abbrev refresh-claims : ℕ → refresh-lts.Claims
@@ -441,8 +447,9 @@ pub +compute+refresh+round+rounds-spec : {M : Type 1} → statement M
     (compute-element-copy-out-size t)
     (compute-mul-begin t)
     (compute-begin-requires t)
+    (compute-element-copy-out-most t)
+    (compute-add-most t)
     (compute-direction-requires t)
-    (compute-element-copy-out-rounds t)
     (compute-rounds-requires t)
     (compute-same-length-2 t)
     (compute-returns-2 t))

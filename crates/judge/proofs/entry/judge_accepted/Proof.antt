@@ -4,7 +4,7 @@ use mathlib.Core.Path.{_≡_, refl, sym, ap, ap₂, _∙_, subst}
 use native.Mathlib.Nat.{mul-le-mul-right}
 use native.Mathlib.Omega.{arith}
 use lib.ListN.{length, replicate}
-use lib.Pow.{pow-mono}
+use lib.Pow.{pow-mono, pow-pos}
 use Rattle.case_model.specs.Case.{read}
 use Rattle.case_model.specs.Judging.{cleared}
 use Rattle.case_model.specs.Replies.{answers}
@@ -48,13 +48,13 @@ returns : tie.Need-returns
 returns c =
     let st = start-of (c .before) in
     let w = st .args .work .now in
-    let h = subst (λ k. k ≤ st .args .set) (known (c .before) .size) (c .if1 .taken) in
+    let h = subst (λ k. k ≤ st .args .set) (known (c .before) .size) (omega (arith, c .if1 .taken)) in
     let j = judging-beyond (st .args .file .now) (st .args .set) (length w) (st .pre) h in
     (sym j, subst (λ R. w ≡ cleared R w) (sym j) refl)
 
 -- past row 8 the set is one of the case's
 inside : (c : tie.Else1) → start-of (c .before) .args .set < 2 ^ length (read (start-of (c .before) .args .file .now) .labels)
-inside c = subst (λ k. start-of (c .before) .args .set < k) (known (c .before) .size) (omega (arith, c .if1 .left))
+inside c = let k = known (c .before) in omega (arith, k .size, pow-pos (length (read (start-of (c .before) .args .file .now) .labels)))
 
 mul-if2 : tie.Need-mul-if2
 mul-if2 c = search needs
@@ -73,7 +73,7 @@ returns-2 c =
     let at-counts = c .before .before in
     let st = start-of at-counts in
     let w = st .args .work .now in
-    let short = subst (λ k. length w < k) (asks at-counts) (c .if2 .taken) in
+    let short = subst (λ k. length w < k) (asks at-counts) (omega (arith, c .if2 .taken)) in
     let j = judging-short (st .args .file .now) (st .args .set) (length w) (st .pre) (inside (c .before)) short in
     (sym j, subst (λ R. w ≡ cleared R w) (sym j) refl)
 

@@ -1,4 +1,5 @@
 -- `law_shapes::shapes::shape_of` meets its contract: law by law.
+use mathlib.Core.Path.{refl}
 use borrow.Author.Needs.{needs}
 use native.Mathlib.Numerals.{add-one}
 use native.Mathlib.Omega.{arith}
@@ -44,31 +45,31 @@ insert-requires-6 : tie.Need-insert-requires-6
 insert-requires-6 c κs = search needs
 
 returns : tie.Need-returns
-returns c = record { is = rw (c .redirect .ensures, c .before .before .match .keys1); few = rw (c .redirect .ensures) (omega arith) }
+returns c = record { is = rw (c .redirect .ensures, c .before .before .match .keys1) refl; few = rw (c .redirect .ensures) (omega arith) }
 
 returns-2 : tie.Need-returns-2
-returns-2 c = record { is = rw (c .redirect2 .ensures, c .before .before .match .keys2); few = rw (c .redirect2 .ensures) (omega arith) }
+returns-2 c = record { is = rw (c .redirect2 .ensures, c .before .before .match .keys2) refl; few = rw (c .redirect2 .ensures) (omega arith) }
 
 returns-3 : tie.Need-returns-3
-returns-3 c = record { is = rw (c .redirect3 .ensures, c .before .before .match .keys3); few = rw (c .redirect3 .ensures) (omega arith) }
+returns-3 c = record { is = rw (c .redirect3 .ensures, c .before .before .match .keys3) refl; few = rw (c .redirect3 .ensures) (omega arith) }
 
 returns-4 : tie.Need-returns-4
-returns-4 c = record { is = rw (c .insert .ensures, c .before .before .match .keys4); few = rw (c .insert .ensures) (omega arith) }
+returns-4 c = record { is = rw (c .insert .ensures, c .before .before .match .keys4) refl; few = rw (c .insert .ensures) (omega arith) }
 
 returns-5 : tie.Need-returns-5
-returns-5 c = record { is = rw (c .insert2 .ensures, c .before .before .match .keys5); few = rw (c .insert2 .ensures) (omega arith) }
+returns-5 c = record { is = rw (c .insert2 .ensures, c .before .before .match .keys5) refl; few = rw (c .insert2 .ensures) (omega arith) }
 
 returns-6 : tie.Need-returns-6
-returns-6 c = record { is = rw (c .insert3 .ensures, c .before .before .match .keys6, add-one); few = rw (c .insert3 .ensures) (omega arith) }
+returns-6 c = record { is = rw (c .insert3 .ensures, c .before .before .match .keys6, add-one) refl; few = rw (c .insert3 .ensures) (omega arith) }
 
 returns-7 : tie.Need-returns-7
-returns-7 c = record { is = rw (c .insert4 .ensures, c .before .before .match .keys7, add-one); few = rw (c .insert4 .ensures) (omega arith) }
+returns-7 c = record { is = rw (c .insert4 .ensures, c .before .before .match .keys7, add-one) refl; few = rw (c .insert4 .ensures) (omega arith) }
 
 returns-8 : tie.Need-returns-8
-returns-8 c = record { is = rw (c .redirect4 .ensures, c .before .before .match .keys8); few = rw (c .redirect4 .ensures) (omega arith) }
+returns-8 c = record { is = rw (c .redirect4 .ensures, c .before .before .match .keys8) refl; few = rw (c .redirect4 .ensures) (omega arith) }
 
 returns-9 : tie.Need-returns-9
-returns-9 c = record { is = rw (c .insert5 .ensures, c .before .match .keys9); few = rw (c .insert5 .ensures) (omega arith) }
+returns-9 c = record { is = rw (c .insert5 .ensures, c .before .match .keys9) refl; few = rw (c .insert5 .ensures) (omega arith) }
 
 returns-10 : tie.Need-returns-10
 returns-10 c =

@@ -87,7 +87,7 @@ returns : tie.Need-returns
 returns c =
     let at-lengths = c .before .before in
     let a = of-lengths at-lengths .args in
-    let e = short (a .file .now) (a .out .now) (a .pair) _ (total-is (at-sizes at-lengths)) (c .before .if1 .taken) in
+    let e = short (a .file .now) (a .out .now) (a .pair) _ (total-is (at-sizes at-lengths)) (omega (arith, c .before .if1 .taken)) in
     (rw e (c .refused .ensures), rw e)
 
 put-merged-requires : tie.Need-put-merged-requires

@@ -1,5 +1,8 @@
 -- `merged_steps::rows::carry` meets its contract, by whether the step stays.
+use mathlib.Core.Bool.{true, not, _&&_}
+use mathlib.Core.Path.{_≡_}
 use borrow.Author.Needs.{needs}
+use lib.Dec.{eqb}
 use Rattle.merged_steps.proofs.rows.carry.Statement.{statement}
 use Rattle.merged_steps.proofs.rows.carry.Tie as tie
 
@@ -21,7 +24,9 @@ returns c =
     let at-numbered = at-if1 .before .before .before in
     let n = at-numbered .numbered .ensures in
     let m = c .mark .ensures in
-    rw (← n .0, ← n .1, ← n .2, at-if1 .if1 .taken, ← c .before .before .moved .ensures, ← c .before .moved2 .ensures) m
+    let a = at-numbered .before .args in
+    let stays : (a .is && not (eqb (at-numbered .numbered .result .0) (a .pair .removed))) ≡ true = at-if1 .if1 .taken in
+    rw (← n .0, ← n .1, ← n .2, stays, ← c .before .before .moved .ensures, ← c .before .moved2 .ensures) m
 
 returns-2 : tie.Need-returns-2
 returns-2 c =

@@ -3,7 +3,7 @@ use mathlib.Core.Path.{_≡_}
 use Prim.Native.Nat.{_-_, _≤_}
 use native.Mathlib.Omega.{arith}
 use Rattle.case_model.specs.Case.{flat}
-use Rattle.case_model.specs.Merging.{selected, inOrder}
+use Rattle.case_model.specs.Merging.{isStep, selected, inOrder}
 use Rattle.case_model.specs.Areas.{Laid}
 use Rattle.case_reader.specs.StepRows.{relation}
 use Rattle.case_model.proofs.Laying.{laid-none}
@@ -17,6 +17,11 @@ Inv-loop out₀ base rows at₀ x₀ out at x = Laid out₀ out base at (flat (i
 
 abbrev μ-loop : tie.MeasureT-loop
 μ-loop out₀ base rows at₀ x₀ out at x = 2048 - x
+
+-- the bit that is read says whether the triple of this turn is a step
+read : (c : tie.After-member Inv-loop μ-loop) → let at-loop = c .before .before in
+    c .member .result ≡ isStep (relation (at-loop .before .before .args .t1)) (at-loop .loop .x)
+read c = let at-loop = c .before .before in told (at-loop .before .before .args .t1) (at-loop .loop .x) (c .member .ensures)
 
 loop-holds : tie.Need-loop-holds Inv-loop μ-loop
 unfolding inOrder selected
@@ -36,7 +41,7 @@ put-step-requires c κs =
     let at-loop = c .before .before .before in
     let start = at-loop .before .before in
     let (l, few) = at-loop .loop .inv in
-    (omega arith, turn-room _ _ _ (c .before .before .loop-test .taken) (start .pre) l (told _ _ (c .before .member .ensures)))
+    (omega arith, turn-room _ _ _ (c .before .before .loop-test .taken) (start .pre) l (read (c .before)))
 
 add-x : tie.Need-add-x Inv-loop μ-loop
 add-x c = search needs
@@ -50,7 +55,7 @@ loop-again c =
     let at-member = at-put-step .before .before in
     let at-loop = at-member .before .before in
     let (l, few) = at-loop .loop .inv in
-    (laid-turn _ _ _ l (told _ _ (at-member .member .ensures)) (at-put-step .put-step .ensures), omega arith)
+    (laid-turn _ _ _ l (read at-member) (at-put-step .put-step .ensures), omega arith)
 
 same-length : tie.Need-same-length Inv-loop μ-loop
 same-length c = c .before .loop .inv .0 .long

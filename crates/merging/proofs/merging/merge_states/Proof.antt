@@ -6,6 +6,7 @@ use lib.ListN.{length}
 use Rattle.case_model.specs.Limits.{mostStates, standard}
 use Rattle.case_model.proofs.Valid.{accepted-valid}
 use Rattle.merging.proofs.Replying.{inside, merging-beyond, merging-unlike, merging-alike}
+use mathlib.Core.Path.{refl}
 use borrow.Author.Needs.{needs}
 use Rattle.merging.proofs.merging.merge_states.Statement.{statement}
 use Rattle.merging.proofs.merging.merge_states.Tie as tie
@@ -24,7 +25,7 @@ returns c =
     let e =
     merging-beyond (a .file .now) (a .s) (a .t) (length (a .out .now)) _ (start .pre)
     (at-state-count .state-count .ensures .is) (not-true _ (c .before .if1 .taken)) in
-    record { says = rw (e, c .refused .ensures); leaves = rw e }
+    record { says = rw (e, c .refused .ensures) refl; leaves = rw e }
 
 -- both are states, of which there are at most 16
 at-inside : (c : tie.Else1) → let counted = c .before in let n = counted .state-count .result in

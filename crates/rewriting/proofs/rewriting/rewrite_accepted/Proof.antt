@@ -2,7 +2,7 @@
 use borrow.Author.Needs.{needs}
 use borrow.Author.Tests.{not-true, not-false}
 use Prim.Native.Nat.{_+_}
-use mathlib.Core.Path.{ap, _∙_}
+use mathlib.Core.Path.{refl, ap, _∙_}
 use native.Mathlib.Nat.{zero-add}
 use native.Mathlib.Omega.{arith}
 use lib.ListN.{length}
@@ -86,7 +86,7 @@ returns-3 c =
     let counted = at-nodes c6 in
     let e = rewriting-many (a .file .now) (a .law) (a .node) _ counted (at-if1 .if1 .left) _
     (at-shape-at .shape-at .ensures) (not-false _ (at-if2 .if2 .left)) (c .before .if3 .taken) (length (a .out .now)) in
-    record { says = rw (e, c .refused3 .ensures); leaves = rw e }
+    record { says = rw (e, c .refused3 .ensures) refl; leaves = rw e }
 
 new-size-requires : tie.Need-new-size-requires
 new-size-requires c κs = at-plan c

@@ -1,4 +1,5 @@
 -- `rewritten_file::plan::name` meets its contract: by cases on the shape and on the place of i.
+use native.Mathlib.Omega.{arith}
 use borrow.Author.Needs.{needs}
 use borrow.Author.Tests.{eq-eqb, ne-eqb, lt-ltb, le-ltb}
 use Rattle.rewritten_file.proofs.plan.name.Statement.{statement}
@@ -11,7 +12,7 @@ returns-2 : tie.Need-returns-2
 returns-2 c = rw (c .before .if1 .taken, ne-eqb _ _ (c .if2 .left))
 
 returns-3 : tie.Need-returns-3
-returns-3 c = rw (c .before .if1 .left, lt-ltb _ _ (c .if3 .taken))
+returns-3 c = let a = c .before .before .args in rw (c .before .if1 .left, lt-ltb (a .old) (a .j) (omega arith))
 
 add-result : tie.Need-add-result
 add-result c = search needs

@@ -1,5 +1,5 @@
 -- `rewritten_file::plan::put_section` meets its contract: the part of the file that the section's pair tells.
-use mathlib.Core.Path.{ap₂, _∙_}
+use mathlib.Core.Path.{_≡_, ap₂, _∙_}
 use native.Mathlib.Omega.{arith}
 use borrow.Author.Needs.{needs}
 use Rattle.case_model.specs.Bytes.{offset, size}
@@ -9,6 +9,12 @@ use Rattle.case_writer.specs.Parts.{part}
 use Rattle.rewritten_file.proofs.NewFile.{section-bytes, section-within}
 use Rattle.rewritten_file.proofs.plan.put_section.Statement.{statement}
 use Rattle.rewritten_file.proofs.plan.put_section.Tie as tie
+
+-- the part begins where its own section does
+begins : (c : tie.After-section-offset) → let a = c .before .before .before .args in c .section-offset .result ≡ offset (a .file .now) (a .k)
+begins c =
+    let start = c .before .before .before in
+    there (start .pre .1) (offset (start .args .file .now) (start .args .k)) (c .section-offset .ensures .is)
 
 section-offset-requires : tie.Need-section-offset-requires
 section-offset-requires c κs = search needs
@@ -22,7 +28,7 @@ put-part-requires c κs =
     let start = at-section-offset .before .before .before in
     let a = start .args in
     let pre = start .pre in
-    let o = there (pre .1) (offset (a .file .now) (a .k)) (at-section-offset .section-offset .ensures .is) in
+    let o = begins at-section-offset in
     let s = there (pre .1) (size (a .file .now) (a .k)) (c .before .section-size .ensures .is) in
     (omega (arith, section-within (a .file .now) (pre .0) (a .k) (pre .1)), omega (arith, pre .2))
 
@@ -37,7 +43,7 @@ returns c =
     let start = at-section-offset .before .before .before in
     let a = start .args in
     let pre = start .pre in
-    let o = there (pre .1) (offset (a .file .now) (a .k)) (at-section-offset .section-offset .ensures .is) in
+    let o = begins at-section-offset in
     let s = there (pre .1) (size (a .file .now) (a .k)) (at-section-size .section-size .ensures .is) in
     laid-as (ap₂ (part (a .file .now)) o s ∙ section-bytes (a .file .now) (a .k)) (at-put-part .put-part .ensures .0)
 

@@ -1,5 +1,5 @@
 -- `tables::modal::by_action` meets its contract: bit a of the group says whether what was read counts.
-use Prim.Native.Nat.{_+_, _*_}
+use Prim.Native.Nat.{_+_, _*_, _/_, _%_, _^_}
 use mathlib.Core.Bool.{cond}
 use mathlib.Core.Path.{sym, ap, _∙_}
 use native.Mathlib.Omega.{arith}
@@ -26,7 +26,7 @@ unfolding has
 returns c =
     let a = c .before .before .args in
     let y = decoded (a .plan .now) .sources (8 * a .t + a .a) in
-    c .source .ensures ∙ sym (ap (λ b. cond b y 0) (eq-eqb _ _ (c .before .if1 .taken)))
+    c .source .ensures ∙ sym (ap (λ b. cond b y 0) (eq-eqb (a .group / 2 ^ a .a % 2) 1 (c .before .if1 .taken)))
 
 returns-2 : tie.Need-returns-2
 unfolding has

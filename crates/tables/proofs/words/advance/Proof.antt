@@ -4,6 +4,7 @@ use mathlib.Core.Path.{refl, sym, _∙_}
 use native.Mathlib.Nat.{not-suc-le-zero}
 use native.Mathlib.Omega.{arith}
 use borrow.Author.Count.{below-more}
+use lib.Bits.{bitXor}
 use Rattle.case_model.specs.Areas.{from}
 use Rattle.case_model.proofs.Filling.{Filling, filling-none, before, after, turn, filled}
 use Rattle.tables.proofs.Comparing.{Compared}
@@ -62,11 +63,13 @@ loop-again c =
     let st = at-loop .before in
     let i = at-loop .loop .i in
     let change = at-loop .loop .change in
+    let w = at-loop .loop .work in
+    let x = bitXor (from w (st .args .b) i) (from w (st .args .c) i) in
     let p = before s (st .args .b + i) (omega arith) in
     let q = after s (st .args .c + i) (omega arith) in (
       turn s _ (omega arith) (omega arith) p,
       record {
-        stood = λ z. let (y, x) = or-zero change _ z in below-more _ i (d .stood y) (sym p ∙ xor-zero _ _ x ∙ q);
+        stood = λ z. let (y, e) = or-zero change x z in below-more _ i (d .stood y) (sym p ∙ xor-zero _ _ e ∙ q);
         stands = λ e. zero-or-xor change _ _ (d .stands (λ x h. e x (omega arith))) (p ∙ e i (omega arith) ∙ sym q);
       },
     )

@@ -14,8 +14,11 @@ earlier-requires c κs = search needs
 
 returns : tie.Need-returns
 returns c =
-    let start = c .before .before .before in
-    record { finds = c .earlier .ensures ∙ ap (λ x. found (start .args .self .finding) orElse x) (c .before .tested .ensures); has = refl }
+    let before = found (c .before .before .before .args .self .finding) in
+    record {
+      finds = _∙_ {b = before orElse found (c .before .tested .result)} (c .earlier .ensures) (ap (λ x. before orElse x) (c .before .tested .ensures));
+      has = refl;
+    }
 
 pub unless-spec : {M : Type 1} → statement M
 unless-spec = tie.close (tie.spec tested-requires earlier-requires returns)

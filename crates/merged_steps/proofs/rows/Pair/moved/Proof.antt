@@ -1,4 +1,5 @@
 -- `merged_steps::rows::Pair::moved` meets its contract, by cases.
+use mathlib.Core.Path.{refl}
 use borrow.Author.Tests.{eq-eqb, ne-eqb, lt-ltb, le-ltb}
 use Rattle.case_model.specs.Merging.{moved}
 use borrow.Author.Needs.{needs}
@@ -7,7 +8,7 @@ use Rattle.merged_steps.proofs.rows.Pair.moved.Tie as tie
 
 returns : tie.Need-returns
 unfolding moved
-returns c = simp (eq-eqb _ _ (c .if1 .taken))
+returns c = simp (eq-eqb _ _ (c .if1 .taken)) refl
 
 sub-result : tie.Need-sub-result
 sub-result c = search needs
