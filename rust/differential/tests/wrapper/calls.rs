@@ -1,4 +1,5 @@
 //! Calls of the script, in a shell, for what no argument can say: closed and redirected files.
+use hoidrul::{Reason, Refusal};
 use std::ffi::OsString;
 use std::fs;
 use std::io::{ErrorKind, Write};
@@ -34,6 +35,25 @@ pub fn shells() -> Vec<&'static str> {
     shells
 }
 
+/// What the script says where `starts yes` rests on no start state.
+pub const NO_START: &str =
+    "judge: the case names no start state, so starts yes says nothing of the drive\n";
+
+/// What the script says of a refusal: the binding's words, and of the work area where to turn.
+pub fn in_words(print: &str) -> String {
+    let (refused, place) = print.trim_end().rsplit_once(' ').expect("a place");
+    let place: usize = place.parse().expect("a number");
+    let known = Reason::ALL.iter().map(|&reason| Refusal { reason, place });
+    let mut lines = known.map(|refusal| refusal.to_string());
+    let line = lines.find(|line| line.starts_with(&format!("{refused} {place}: ")));
+    let more = if refused == "refused 9" {
+        " (the program has 32,768 words; larger cases go by the library)"
+    } else {
+        ""
+    };
+    format!("judge: {}{more}\n", line.expect("a known refusal"))
+}
+
 /// The outcome of a call.
 #[derive(Debug, PartialEq)]
 pub struct Outcome {
@@ -43,10 +63,10 @@ pub struct Outcome {
 }
 
 impl Outcome {
-    /// This answer, with its status, and nothing on standard error.
-    pub fn answers(&self, print: &str) {
+    /// This answer, with its status, and this on standard error.
+    pub fn answers(&self, print: &str, said: &str) {
         let status = i32::from(print.starts_with("refused "));
-        assert_eq!((&*self.print, &*self.said), (print, ""));
+        assert_eq!((&*self.print, &*self.said), (print, said));
         assert_eq!(self.status, Some(status));
     }
 
@@ -110,6 +130,24 @@ impl Wrapper {
     /// That nothing is left of the script's temporary files.
     pub fn is_clean(&self) -> bool {
         fs::read_dir(&self.temporary).expect("a folder").count() == 0
+    }
+
+    /// The numbers and names of the processes that calls have started and that still run. Their folder
+    /// for temporary files tells them from all others.
+    pub fn running(&self) -> Vec<(String, String)> {
+        let mark = format!("TMPDIR={}\0", self.temporary.display());
+        let mut running = vec![];
+        for process in fs::read_dir("/proc").expect("/proc").flatten() {
+            let read = |name| {
+                let bytes = fs::read(process.path().join(name)).unwrap_or_default();
+                String::from_utf8_lossy(&bytes).into_owned()
+            };
+            if read("environ").contains(&mark) {
+                let number = process.file_name().into_string().expect("text");
+                running.push((number, read("comm").trim_end().to_string()));
+            }
+        }
+        running
     }
 }
 

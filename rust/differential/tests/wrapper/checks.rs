@@ -15,7 +15,7 @@ const PROGRAM: &str = "target/bin/judge_case";
 fn each_crate_is_said_first() {
     let repository = Repository::new("order");
     let outcome = repository.wrapper.run("judge 2>>calls");
-    outcome.answers(&answer(1));
+    outcome.answers(&answer(1), "");
     let calls = fs::read_to_string(repository.root.join("calls")).expect("calls");
     let lines: Vec<_> = calls.lines().filter(|line| *line != "version").collect();
     let mut expected = Vec::new();

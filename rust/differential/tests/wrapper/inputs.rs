@@ -1,19 +1,18 @@
 //! The script over the proved program: where a case may come from, and its answer.
-use crate::calls::{folder, script, shells, Outcome, Wrapper};
-use differential::drives::{drives, folder as cases, longest, read};
-use differential::padding::{write_padded, WIDEST};
+use crate::calls::{folder, in_words, script, shells, Outcome, Wrapper, NO_START};
+use differential::drives::{case, drives, folder as cases, longest, read, starting_in};
+use differential::padding::{all, write_padded, WIDEST};
 use differential::printed::wanted;
+use plain::parse;
 use std::env;
-use std::fs::{self, File, Permissions};
-use std::os::unix::fs::{symlink, PermissionsExt};
+use std::fs;
+use std::os::unix::fs::symlink;
 use std::path::Path;
-use std::process::{Command, Stdio};
+use std::process::Command;
 use std::sync::Once;
-use std::thread::sleep;
-use std::time::Duration;
 
 /// The script of the repository, called from an empty folder.
-fn wrapper(name: &str) -> Wrapper {
+pub fn wrapper(name: &str) -> Wrapper {
     static CHECKED: Once = Once::new();
     let from = folder(name);
     let temporary = from.join("temporary");
@@ -37,7 +36,7 @@ fn wrapper(name: &str) -> Wrapper {
 }
 
 /// Looks at the outcomes of a text by each of the shells.
-fn each(wrapper: &Wrapper, text: &str, input: &[u8], look: impl Fn(Outcome)) {
+pub fn each(wrapper: &Wrapper, text: &str, input: &[u8], look: impl Fn(Outcome)) {
     for shell in shells() {
         println!("{shell}: {text}");
         look(wrapper.run_by(shell, text, input));
@@ -45,50 +44,104 @@ fn each(wrapper: &Wrapper, text: &str, input: &[u8], look: impl Fn(Outcome)) {
     }
 }
 
-fn each_answers(wrapper: &Wrapper, text: &str, input: &[u8], print: &str) {
-    each(wrapper, text, input, |outcome| outcome.answers(print));
+/// What the script has to print of a case and to say.
+pub struct Answer {
+    print: String,
+    said: String,
 }
 
-fn each_is_trouble(wrapper: &Wrapper, text: &str, word: &str) {
+impl Answer {
+    fn to(file: &[u8]) -> Answer {
+        let print = wanted(file);
+        let said = match parse(file) {
+            _ if print.starts_with("refused ") => in_words(&print),
+            Ok(case) if case.starts.is_empty() => NO_START.to_string(),
+            _ => String::new(),
+        };
+        Answer { print, said }
+    }
+
+    fn is(&self, outcome: &Outcome) {
+        outcome.answers(&self.print, &self.said);
+    }
+}
+
+fn each_answers(wrapper: &Wrapper, text: &str, input: &[u8], answer: &Answer) {
+    each(wrapper, text, input, |outcome| answer.is(&outcome));
+}
+
+pub fn each_is_trouble(wrapper: &Wrapper, text: &str, word: &str) {
     each(wrapper, text, b"", |outcome| outcome.is_trouble(word));
 }
 
 /// Two wheels, as a file of this name in the folder of the call.
-fn put(wrapper: &Wrapper, name: &str) -> String {
+pub fn put(wrapper: &Wrapper, name: &str) -> Answer {
     let file = read("two_wheels.case");
     fs::write(wrapper.from.join(name), &file).expect("a file written");
-    wanted(&file)
+    Answer::to(&file)
 }
 
 #[test]
 fn files_of_the_folder() {
     let wrapper = wrapper("cases");
     for (name, _) in drives() {
-        let print = wanted(&read(name));
+        let answer = Answer::to(&read(name));
         let file = cases().join(name);
         let file = file.to_str().expect("a plain name");
-        wrapper.run(&format!("judge '{file}'")).answers(&print);
-        wrapper.run_by("", "judge", &read(name)).answers(&print);
+        answer.is(&wrapper.run(&format!("judge '{file}'")));
+        answer.is(&wrapper.run_by("", "judge", &read(name)));
     }
+}
+
+/// The rule p0 on states of which 0 and 2 have it. What is said rests on the start states alone, wherever
+/// their section begins, also behind byte 256.
+#[test]
+fn start_states() {
+    let wrapper = wrapper("starts");
+    let steps: Vec<_> = (0..24).map(|i| (i / 8, i % 8, 0)).collect();
+    let expect = |starts: &[u8], last: &str, said: &str| {
+        let case = starting_in(starts, case(&[1, 0, 1], &steps, &[(2, 0, 0); 64]));
+        let print = format!("states 3\nrounds 0\n0 yes\n1 no\n2 yes\nstarts {last}\n");
+        let answer = Answer::to(&write_padded(&case, WIDEST));
+        assert_eq!((&*answer.print, &*answer.said), (&*print, said));
+        each_answers(&wrapper, "judge", &write_padded(&case, WIDEST), &answer);
+        for gaps in all().step_by(7) {
+            answer.is(&wrapper.run_by("", "judge", &write_padded(&case, gaps)));
+        }
+    };
+    expect(&[], "yes", NO_START);
+    expect(&[0], "yes", "");
+    expect(&[0, 2], "yes", "");
+    expect(&[1], "no", "");
 }
 
 #[test]
 fn strange_names() {
     let wrapper = wrapper("names");
-    for name in [
-        "-n", "-", "--", "a b", "a\nb\n", "*", "!", "(", "$HOME", "é",
-    ] {
-        let print = put(&wrapper, name);
-        each_answers(&wrapper, &format!("judge '{name}'"), b"", &print);
+    for name in ["-n", "--", "a b", "a\nb\n", "*", "!", "(", "$HOME", "é"] {
+        let answer = put(&wrapper, name);
+        each_answers(&wrapper, &format!("judge '{name}'"), b"", &answer);
     }
-    let print = put(&wrapper, "--help");
-    each_answers(&wrapper, "judge ./--help", b"", &print);
+    for name in ["-", "-h", "--help"] {
+        let answer = put(&wrapper, name);
+        each_answers(&wrapper, &format!("judge ./{name}"), b"", &answer);
+    }
+}
+
+/// Even where there is a file of that name.
+#[test]
+fn a_dash_is_standard_input() {
+    let wrapper = wrapper("dash");
+    put(&wrapper, "-");
+    let file = read("f.case");
+    each_answers(&wrapper, "judge -", &file, &Answer::to(&file));
+    each_is_trouble(&wrapper, "judge - <&-", "standard input is closed");
 }
 
 #[test]
 fn other_than_files() {
     let wrapper = wrapper("others");
-    let print = put(&wrapper, "case");
+    let answer = put(&wrapper, "case");
     for text in [
         "judge /dev/stdin <case",
         "judge /dev/fd/3 3<case",
@@ -101,10 +154,11 @@ fn other_than_files() {
         "judge case <&-",
         "judge case 2>&-",
     ] {
+        let said = if text.contains(" 2") { "" } else { NO_START };
         let text = format!("{text}\n");
         each(&wrapper, &text, b"", |outcome| {
-            assert_eq!(outcome.print, print);
-            assert_eq!(outcome.said, "");
+            assert_eq!(outcome.print, answer.print);
+            assert_eq!(outcome.said, said);
         });
     }
 }
@@ -112,11 +166,15 @@ fn other_than_files() {
 #[test]
 fn help() {
     let wrapper = wrapper("help");
-    each(&wrapper, "judge --help", b"", |outcome| {
-        assert!(outcome.print.starts_with("usage: judge [FILE]\n"));
-        assert_eq!((&*outcome.said, outcome.status), ("", Some(0)));
-    });
+    put(&wrapper, "-h");
+    for text in ["judge --help", "judge -h"] {
+        each(&wrapper, text, b"", |outcome| {
+            assert!(outcome.print.starts_with("usage: judge [FILE]\n"));
+            assert_eq!((&*outcome.said, outcome.status), ("", Some(0)));
+        });
+    }
     each_is_trouble(&wrapper, "judge --help --help", "more than one");
+    each_is_trouble(&wrapper, "judge -h -", "more than one");
     each_is_trouble(&wrapper, "judge --help >/dev/full", "written");
 }
 
@@ -124,77 +182,26 @@ fn help() {
 fn refusals() {
     let wrapper = wrapper("refusals");
     let longest = write_padded(&longest(), WIDEST);
-    each_answers(&wrapper, "judge", &longest, "refused 9 0\n");
+    let too_large = Answer::to(&longest);
+    assert_eq!(too_large.print, "refused 9 0\n");
+    each_answers(&wrapper, "judge", &longest, &too_large);
+    let too_long = Answer::to(&[0; 65_536]);
+    assert_eq!(too_long.print, "refused 1 0\n");
     for length in [0, 1, longest.len() + 1, 65_535, 65_536, 65_537, 300_000] {
         let mut file = longest.clone();
         file.resize(length, 0);
-        let print = wanted(&file);
-        assert_eq!(print, "refused 1 0\n");
-        wrapper.run_by("", "judge", &file).answers(&print);
+        assert_eq!(wanted(&file), too_long.print);
+        too_long.is(&wrapper.run_by("", "judge", &file));
     }
-    each_answers(&wrapper, "judge </dev/zero", b"", "refused 1 0\n");
-    each_answers(&wrapper, "judge /dev/zero", b"", "refused 1 0\n");
-}
-
-#[test]
-fn no_such_input() {
-    let wrapper = wrapper("troubles");
-    put(&wrapper, "case");
-    fs::create_dir(wrapper.from.join("a folder")).expect("a folder");
-    for (text, word) in [
-        ("judge ''", "empty"),
-        ("judge '' <case", "empty"),
-        ("judge case case", "more than one"),
-        ("judge case ''", "more than one"),
-        ("judge -- case", "more than one"),
-        ("judge missing <case", "missing"),
-        ("judge 'mis\nsing'", "mis?sing"),
-        ("judge case/case", "case/case"),
-        ("judge 'a folder'", "a folder"),
-        ("judge <'a folder'", "standard input"),
-        ("judge .", "directory"),
-        ("judge /proc/self/mem", "/proc/self/mem"),
-        ("judge </proc/self/mem", "standard input"),
-        ("judge <&-", "standard input"),
-        ("judge /dev/stdin <&-", "/dev/stdin"),
-        ("judge /dev/tcp/localhost/1", "/dev/tcp/localhost/1"),
-    ] {
-        each_is_trouble(&wrapper, text, word);
-    }
-}
-
-/// Root can read every file.
-#[test]
-fn unreadable() {
-    let wrapper = wrapper("unreadable");
-    put(&wrapper, "case");
-    let file = wrapper.from.join("case");
-    fs::set_permissions(&file, Permissions::from_mode(0o000)).expect("permissions set");
-    if File::open(&file).is_err() {
-        each_is_trouble(&wrapper, "judge case", "case");
-    }
-}
-
-#[test]
-fn unwritable() {
-    let wrapper = wrapper("unwritable");
-    put(&wrapper, "case");
-    each_is_trouble(&wrapper, "judge case >/dev/full", "written");
-    each_is_trouble(&wrapper, "judge case >&-", "standard output");
-    each_is_trouble(&wrapper, "judge case <&- >&-", "standard output");
-    let text = "{ judge case; echo $? >status; } | :; cat status >&2; rm status";
-    each(&wrapper, text, b"", |outcome| {
-        assert!(outcome.said.ends_with("written\n2\n"), "{outcome:?}");
-    });
-    let nowhere = "export TMPDIR=/dev/null; judge case";
-    each_is_trouble(&wrapper, nowhere, "temporary");
+    each_answers(&wrapper, "judge </dev/zero", b"", &too_long);
+    each_answers(&wrapper, "judge /dev/zero", b"", &too_long);
 }
 
 /// By a link, by a link to it and through a linked folder, with a CDPATH that leads elsewhere.
 #[test]
 fn through_links() {
     let wrapper = wrapper("links");
-    let print = put(&wrapper, "case");
+    let answer = put(&wrapper, "case");
     let from = &wrapper.from;
     fs::create_dir_all(from.join("bin/more")).expect("a folder");
     symlink(script(), from.join("bin/first")).expect("a link");
@@ -216,7 +223,7 @@ fn through_links() {
     ] {
         let start = format!("FROM=$PWD; cd '{folder}'; export CDPATH=\"$FROM:/:..\"");
         let text = format!("{start}; {call} \"$FROM/case\"");
-        each_answers(&wrapper, &text, b"", &print);
+        each_answers(&wrapper, &text, b"", &answer);
     }
 }
 
@@ -235,26 +242,5 @@ fn at_a_terminal() {
         let answer = outcome.print.find("refused 1 0").expect("an answer");
         assert!(outcome.print[said..answer].contains("terminal"));
         assert_eq!(outcome.status, Some(1));
-    }
-}
-
-/// A signal ends a call that waits for its input, without an answer, and no temporary file is left.
-/// (HUP and INT may be ignored where the tests run.)
-#[test]
-fn a_signal() {
-    let wrapper = wrapper("signal");
-    for shell in shells() {
-        let mut child = wrapper.begin(shell, "exec $BY \"$JUDGE\"");
-        let held = child.stdin.take();
-        sleep(Duration::from_millis(100));
-        let kill = Command::new("kill")
-            .args(["-s", "TERM", &child.id().to_string()])
-            .stdin(Stdio::null())
-            .status();
-        assert!(kill.expect("kill").success());
-        let ended = child.wait().expect("an end");
-        assert_eq!(ended.code(), None);
-        assert!(wrapper.is_clean(), "{shell}");
-        drop(held);
     }
 }

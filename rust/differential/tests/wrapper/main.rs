@@ -3,4 +3,7 @@ mod calls;
 mod checks;
 mod inputs;
 mod prints;
+mod running;
+mod signals;
 mod stub;
+mod troubles;

@@ -1,6 +1,7 @@
-//! Programs that are not what the script expects: it has no answer from what they print.
-use crate::calls::shells;
+//! Made-up programs: which prints are answers to the script, and what it says of them.
+use crate::calls::{in_words, shells};
 use crate::stub::Repository;
+use hoidrul::{Reason, Refusal};
 
 /// A repository whose rt builds a program that does this.
 fn repository(name: &str, does: &str) -> Repository {
@@ -17,15 +18,41 @@ fn prints_that_are_answers() {
     for (i, print) in [
         "states 2\\nrounds 18446744073709551615\\n0 yes\\n1 no\\nstarts yes\\n",
         "states 1\\nrounds 1\\n0 no\\nstarts no\\n",
-        "refused 1 0\\n",
-        "refused 13 6394\\n",
     ]
     .into_iter()
     .enumerate()
     {
         let repository = repository(&format!("answer {i}"), &format!("printf '{print}'"));
         repository.call();
-        repository.call().answers(&print.replace("\\n", "\n"));
+        let print = print.replace("\\n", "\n");
+        repository.call().answers(&print, "");
+    }
+}
+
+/// A program that refuses what it reads with the numbers that it reads.
+#[test]
+fn refusals_in_words() {
+    let repository = repository("in words", "read -r numbers; echo \"refused $numbers\"");
+    repository.call();
+    for shell in shells() {
+        let refuses = |number: u32, place: usize, said: &dyn Fn(&str) -> String| {
+            let numbers = format!("{number} {place}\n");
+            let outcome = repository
+                .wrapper
+                .run_by(shell, "judge", numbers.as_bytes());
+            let print = format!("refused {numbers}");
+            outcome.answers(&print, &said(&print));
+        };
+        for (i, &reason) in Reason::ALL.iter().enumerate() {
+            let place = 500 * i;
+            refuses(Refusal { reason, place }.number(), place, &in_words);
+        }
+        for number in [0, 1 + Reason::ALL.len() as u32, 99] {
+            let unknown = "the script knows no refusal of this number";
+            refuses(number, 5, &|print| {
+                format!("judge: {}: {unknown}\n", print.trim_end())
+            });
+        }
     }
 }
 
@@ -36,6 +63,13 @@ fn prints_that_are_none() {
         "\\n",
         "junk\\n",
         "refused\\n",
+        "refused 1\\n",
+        "refused  0\\n",
+        "refused 1 \\n",
+        "refused 1 0 0\\n",
+        "refused 1 0\\nmore\\n",
+        "refused one 0\\n",
+        "refused 1 -1\\n",
         "states 1\\n",
         "states 1\\nrounds 1\\n",
         "states 1\\nrounds 1\\n0 yes\\n",

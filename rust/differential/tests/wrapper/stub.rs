@@ -100,7 +100,7 @@ impl Repository {
 
     /// A call that has nothing checked.
     pub fn answers(&self, rounds: usize) {
-        self.call().answers(&answer(rounds));
+        self.call().answers(&answer(rounds), "");
         assert!(self.checked().is_empty());
     }
 }
