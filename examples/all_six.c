@@ -3,7 +3,7 @@
  *     cc -I include examples/all_six.c target/staticlib/libhoidrul.a
  *     ./a.out cases/two_wheels.case
  *
- * A refusal prints its number and place on standard error, and the exit status is 1. */
+ * A refusal prints its number, its place and its words on standard error, and the exit status is 1. */
 #include <hoidrul.h>
 #include <inttypes.h>
 #include <stdio.h>
@@ -16,7 +16,8 @@ static uint64_t answer(uint64_t reply)
 {
     if (!hoidrul_refused(reply))
         return reply;
-    fprintf(stderr, "%s: refused %" PRIu32 " %" PRIu32 "\n", path, hoidrul_number(reply), hoidrul_place(reply));
+    uint32_t number = hoidrul_number(reply);
+    fprintf(stderr, "%s: refused %" PRIu32 " %" PRIu32 ": %s\n", path, number, hoidrul_place(reply), hoidrul_reason_text(number));
     exit(EXIT_FAILURE);
 }
 
@@ -68,15 +69,15 @@ static void judge(const uint8_t *file, size_t len)
 /* Merges the first state that has a lower one alike to it with that one. */
 static void merge_first(const uint8_t *file, size_t len)
 {
-    uint8_t classes[16], out[HOIDRUL_LONGEST];
-    size_t n = answer(hoidrul_classes(file, len, classes, sizeof classes));
+    uint8_t classes[HOIDRUL_MOST_STATES], out[HOIDRUL_LONGEST];
+    size_t n = hoidrul_written(answer(hoidrul_classes(file, len, classes, sizeof classes)));
     printf("classes:");
     for (size_t state = 0; state < n; state++)
         printf(" %d", classes[state]);
     printf("\n");
     for (size_t state = 0; state < n; state++)
         if (classes[state] < state) {
-            size_t written = answer(hoidrul_merge(file, len, classes[state], state, out, sizeof out));
+            size_t written = hoidrul_written(answer(hoidrul_merge(file, len, classes[state], state, out, sizeof out)));
             printf("states %d and %zu merged: %zu bytes\n", classes[state], state, written);
             judge(out, written);
             return;
@@ -87,13 +88,13 @@ static void merge_first(const uint8_t *file, size_t len)
 static void rewrite_first(const uint8_t *file, size_t len, size_t nodes)
 {
     uint8_t out[HOIDRUL_LONGEST];
-    for (size_t law = 1; law <= 9; law++)
+    for (size_t law = 1; law <= HOIDRUL_MOST_LAWS; law++)
         for (size_t node = 0; node < nodes; node++) {
             uint64_t reply = hoidrul_rewrite(file, len, law, node, out, sizeof out);
             if (hoidrul_refused(reply)) /* It does not fit, or the rule would get too many nodes. */
                 continue;
-            printf("law %zu at node %zu: %zu bytes\n", law, node, (size_t)reply);
-            judge(out, reply);
+            printf("law %zu at node %zu: %zu bytes\n", law, node, hoidrul_written(reply));
+            judge(out, hoidrul_written(reply));
             return;
         }
 }

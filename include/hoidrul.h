@@ -4,8 +4,9 @@
  * A lent area, `work` or `out`, must not overlap the file. A pointer may be null where its length is 0.
  *
  * Replies. A refusal has bit 63 set, its number in bits 32 to 62 and its place in bits 0 to 31; an answer has bit 63
- * clear. Places count from 0: the step in refusal 3, the node in 5 and 6, and else 0. A refusal leaves lent areas unchanged.
- * The inline functions below take replies apart.
+ * clear. Places count from 0: the step in refusal 3, the node in 5 and 6, and else 0. Only opening refuses by 0, without
+ * bit 63. A refusal leaves lent areas unchanged. The inline functions below take replies apart, and say 0 of whatever a
+ * refusal has not, so that a check that was forgotten lets no drive pass.
  *
  * Threads. Nothing is kept from call to call and there is no global state: threads may call at once, each with areas
  * of its own. They may share a file that nobody writes.
@@ -16,6 +17,10 @@
  * Time. Judging can take hours: a binder takes up to n * 2^n rounds on n states, and nested binders of alternating
  * kinds multiply theirs. Only ending its thread or process stops a call. The other functions end within about a
  * millisecond.
+ *
+ * Cancelling. No call has a cancellation point, so pthread_cancel ends a call only where the thread has set
+ * PTHREAD_CANCEL_ASYNCHRONOUS, best just around the call; else it takes effect after it. A call holds no lock and
+ * allocates nothing, so nothing has to be released; the area lent to it may hold anything then.
  */
 #ifndef HOIDRUL_H
 #define HOIDRUL_H
@@ -27,12 +32,27 @@
 extern "C" {
 #endif
 
+/* The version of this header; take the archive of the same. */
+#define HOIDRUL_VERSION "0.1.0"
+#define HOIDRUL_VERSION_MAJOR 0
+#define HOIDRUL_VERSION_MINOR 1
+#define HOIDRUL_VERSION_PATCH 0
+
 /* The longest case, in bytes, with its padding. An `out` of this length has room for every result, which is packed and
  * has at most 6,385 bytes. */
 #define HOIDRUL_LONGEST 6394
 
 /* Enough stack for a thread that calls, in bytes. */
 #define HOIDRUL_STACK 131072
+
+/* How many there can be: of padding, bytes between two sections. Laws have the numbers 1 to 9, all others count from 0. */
+#define HOIDRUL_MOST_STATES 16
+#define HOIDRUL_MOST_NODES 64
+#define HOIDRUL_MOST_ACTIONS 8
+#define HOIDRUL_MOST_PROPOSITIONS 8
+#define HOIDRUL_MOST_VARIABLES 16
+#define HOIDRUL_MOST_LAWS 9
+#define HOIDRUL_MOST_PADDING 3
 
 /* A case is a head of 16 bytes and four sections. For each section the head has its offset and its length, two bytes
  * each, the low one first. The first section begins behind the head, any other where the one before ends or up to
@@ -50,35 +70,26 @@ extern "C" {
 #define HOIDRUL_RULE 2
 #define HOIDRUL_STARTS 3
 
-/* The numbers of refusals, the lowest tested first. Later versions may have more: let a switch have a default. */
-enum hoidrul_reason {
-    /* under 16 or over 6,394 bytes, or the pairs do not lay four sections in a row, at most three zero bytes apart */
-    HOIDRUL_REASON_PAIRS = 1,
-    /* no label, or more than 16 */
-    HOIDRUL_REASON_LABELS = 2,
-    /* section 1 ends inside a step, or a step names no state or action of the case or does not come after the one before */
-    HOIDRUL_REASON_STEPS = 3,
-    /* the rule is not 1 to 64 whole nodes and then the number of one of them, or the start states do not rise or are not all in the table */
-    HOIDRUL_REASON_RULE = 4,
-    /* a node's kind or bytes are out of range, or it names a node that is not below it */
-    HOIDRUL_REASON_NODE = 5,
-    /* a variable is bound a second time */
-    HOIDRUL_REASON_BINDER = 6,
-    /* a variable is free in the root */
-    HOIDRUL_REASON_FREE = 7,
-    /* the section, set or state asked for is not in the case */
-    HOIDRUL_REASON_BEYOND = 8,
-    /* the work area is too small */
-    HOIDRUL_REASON_WORK = 9,
-    /* the two states are one state, or are not alike */
-    HOIDRUL_REASON_UNLIKE = 10,
-    /* there is no law or node of that number, or the law's shape is not there */
-    HOIDRUL_REASON_SHAPE = 11,
-    /* the rewritten rule would have more than 64 nodes */
-    HOIDRUL_REASON_TOO_MANY_NODES = 12,
-    /* the output area is too small for the result */
-    HOIDRUL_REASON_ROOM = 13
-};
+/* The refusals: name, number and words, the lowest number tested first. Later versions may have more: let a switch have a
+ * default. */
+#define HOIDRUL_REASONS(ROW) \
+    ROW(HOIDRUL_REASON_PAIRS, 1, "under 16 or over 6,394 bytes, or the pairs do not lay four sections in a row, at most three zero bytes apart") \
+    ROW(HOIDRUL_REASON_LABELS, 2, "no label, or more than 16") \
+    ROW(HOIDRUL_REASON_STEPS, 3, "section 1 ends inside a step, or a step names no state or action of the case or does not come after the one before") \
+    ROW(HOIDRUL_REASON_RULE, 4, "the rule is not 1 to 64 whole nodes and then the number of one of them, or the start states do not rise or are not all in the table") \
+    ROW(HOIDRUL_REASON_NODE, 5, "a node's kind or bytes are out of range, or it names a node that is not below it") \
+    ROW(HOIDRUL_REASON_BINDER, 6, "a variable is bound a second time") \
+    ROW(HOIDRUL_REASON_FREE, 7, "a variable is free in the root") \
+    ROW(HOIDRUL_REASON_BEYOND, 8, "the section, set or state asked for is not in the case") \
+    ROW(HOIDRUL_REASON_WORK, 9, "the work area is too small") \
+    ROW(HOIDRUL_REASON_UNLIKE, 10, "the two states are one state, or are not alike") \
+    ROW(HOIDRUL_REASON_SHAPE, 11, "there is no law or node of that number, or the law's shape is not there") \
+    ROW(HOIDRUL_REASON_TOO_MANY_NODES, 12, "the rewritten rule would have more than 64 nodes") \
+    ROW(HOIDRUL_REASON_ROOM, 13, "the output area is too small for the result")
+
+#define HOIDRUL_ROW(name, number, words) name = number,
+enum hoidrul_reason { HOIDRUL_REASONS(HOIDRUL_ROW) };
+#undef HOIDRUL_ROW
 
 /* Vetting. Answer: n + m * 2^16 for a case of n states and m nodes.
  * Refusals: 1 to 7, 8 if there is no such section. */
@@ -110,37 +121,74 @@ uint64_t hoidrul_merge(const uint8_t *file, size_t len, size_t s, size_t t, uint
 /* Rewriting by a law, 1 to 9, at a node: the packed file of the case with that rule. Refusals: 1 to 7, 11 to 13. */
 uint64_t hoidrul_rewrite(const uint8_t *file, size_t len, size_t law, size_t node, uint8_t *out, size_t room);
 
-/* Of every reply but opening's: is it a refusal? If so, its number, of enum hoidrul_reason, and its place. */
+/* Of every reply but opening's: is it a refusal? If so, its number, of enum hoidrul_reason, and its place; of an answer both
+ * are 0. */
 static inline int hoidrul_refused(uint64_t reply) { return (reply >> 63) != 0; }
-static inline uint32_t hoidrul_number(uint64_t refusal) { return (uint32_t)((refusal >> 32) & 0x7fffffff); }
-static inline uint32_t hoidrul_place(uint64_t refusal) { return (uint32_t)(refusal & 0xffffffff); }
+static inline uint32_t hoidrul_number(uint64_t reply)
+{
+    return hoidrul_refused(reply) ? (uint32_t)((reply >> 32) & 0x7fffffff) : 0;
+}
+static inline uint32_t hoidrul_place(uint64_t reply) { return hoidrul_refused(reply) ? (uint32_t)(reply & 0xffffffff) : 0; }
+
+/* The words for a refusal's number; the last ones for a number that HOIDRUL_REASONS does not have. */
+static inline const char *hoidrul_reason_text(uint32_t number)
+{
+#define HOIDRUL_ROW(name, value, words) \
+    case value: \
+        return words;
+    switch (number) {
+        HOIDRUL_REASONS(HOIDRUL_ROW)
+    default:
+        return "a reason that this version does not have";
+    }
+#undef HOIDRUL_ROW
+}
+
+/* The reply if it is an answer, and 0 if it is a refusal: each function below goes by it. */
+static inline uint64_t hoidrul_answer(uint64_t reply) { return hoidrul_refused(reply) ? 0 : reply; }
 
 /* Of vetting's answer: n and m. */
-static inline size_t hoidrul_states(uint64_t answer) { return (size_t)(answer & 0xffff); }
-static inline size_t hoidrul_nodes(uint64_t answer) { return (size_t)(answer >> 16); }
+static inline size_t hoidrul_states(uint64_t reply) { return (size_t)(hoidrul_answer(reply) & 0xffff); }
+static inline size_t hoidrul_nodes(uint64_t reply) { return (size_t)(hoidrul_answer(reply) >> 16); }
 
 /* Of opening's answer: the section's offset within the file, and its length. */
-static inline size_t hoidrul_offset(uint64_t answer) { return (size_t)(answer >> 32); }
-static inline size_t hoidrul_length(uint64_t answer) { return (size_t)(answer & 0xffffffff); }
+static inline size_t hoidrul_offset(uint64_t reply) { return (size_t)(hoidrul_answer(reply) >> 32); }
+static inline size_t hoidrul_length(uint64_t reply) { return (size_t)(hoidrul_answer(reply) & 0xffffffff); }
 
 /* Of judging's answer: the set, the rounds, and whether a state is in the set. */
-static inline uint16_t hoidrul_set(uint64_t answer) { return (uint16_t)(answer & 0xffff); }
-static inline uint64_t hoidrul_rounds(uint64_t answer) { return answer >> 16; }
-static inline int hoidrul_holds(uint64_t answer, size_t state) { return state < 16 && ((answer >> state) & 1) != 0; }
-
-/* Of opening's answer for section HOIDRUL_STARTS of the file and judging's on the set of all states: whether every start
- * state holds, which is so if there is none. */
-static inline int hoidrul_starts_hold(const uint8_t *file, uint64_t opened, uint64_t answer)
+static inline uint16_t hoidrul_set(uint64_t reply) { return (uint16_t)(hoidrul_answer(reply) & 0xffff); }
+static inline uint64_t hoidrul_rounds(uint64_t reply) { return hoidrul_answer(reply) >> 16; }
+static inline int hoidrul_holds(uint64_t reply, size_t state)
 {
+    return state < HOIDRUL_MOST_STATES && ((hoidrul_answer(reply) >> state) & 1) != 0;
+}
+
+/* Of the answer of classes, merging or rewriting: the bytes written. */
+static inline size_t hoidrul_written(uint64_t reply) { return (size_t)hoidrul_answer(reply); }
+
+/* Of opening's reply for section HOIDRUL_STARTS of the file and judging's on the set of all states: whether every start
+ * state holds, which is so if there is none. If either call was refused, it is not so. */
+static inline int hoidrul_starts_hold(const uint8_t *file, uint64_t opened, uint64_t judged)
+{
+    if (hoidrul_offset(opened) == 0 || hoidrul_refused(judged))
+        return 0;
     for (size_t i = 0; i < hoidrul_length(opened); i++)
-        if (!hoidrul_holds(answer, file[hoidrul_offset(opened) + i]))
+        if (!hoidrul_holds(judged, file[hoidrul_offset(opened) + i]))
             return 0;
     return 1;
 }
 
-/* For judging a case of n states, at most 16, and m nodes: the set of all states, and words that are enough. */
-static inline uint16_t hoidrul_all_states(size_t n) { return (uint16_t)(((uint64_t)1 << n) - 1); }
-static inline size_t hoidrul_words(size_t n, size_t m) { return (2 * m) << n; }
+/* For judging a case of n states and m nodes: the set of all states, and words that are enough. More than a case can have
+ * counts as the most; of 0 and 0, which vetting's refusal has, both are 0. */
+static inline uint16_t hoidrul_all_states(size_t n)
+{
+    return (uint16_t)(((uint32_t)1 << (n < HOIDRUL_MOST_STATES ? n : HOIDRUL_MOST_STATES)) - 1);
+}
+static inline size_t hoidrul_words(size_t n, size_t m)
+{
+    size_t nodes = m < HOIDRUL_MOST_NODES ? m : HOIDRUL_MOST_NODES;
+    return (2 * nodes) << (n < HOIDRUL_MOST_STATES ? n : HOIDRUL_MOST_STATES);
+}
 
 #ifdef __cplusplus
 }

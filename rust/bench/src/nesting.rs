@@ -26,8 +26,8 @@ pub const DEEPEST: usize = 8;
 /// States in rings that action 0 turns all together, and from each state a step of action 1 to the
 /// first of each ring. State i has proposition i.
 ///
-/// Level i takes part in the body, a union, with pi and ([1] or Xi;⟨0⟩), or for ν with
-/// pi and (⟨1⟩ and Xi;⟨0⟩). So each state that has a proposition is decided on its own level, which
+/// Level i takes part in the body, a union, with `pi and ([1] or Xi;⟨0⟩)`, or for ν with
+/// `pi and (⟨1⟩ and Xi;⟨0⟩)`. So each state that has a proposition is decided on its own level, which
 /// takes as many rounds as the rings need to stand again as they stood: the least common multiple
 /// of their sizes. There are at most as many levels as states.
 pub fn case(rings: &[usize], levels: usize, binders: Binders) -> Case {

@@ -12,6 +12,7 @@ pub mod f_changed;
 pub mod formulas;
 pub mod generate;
 pub mod groups;
+pub mod guards;
 pub mod judging;
 pub mod measure;
 pub mod padding;

@@ -60,8 +60,9 @@ pub fn feed_and_back() -> Case {
     starting_in(&[0, 2, 5], case(&[1, 0, 1, 0, 0, 1, 0, 0], &steps, &nodes))
 }
 
-/// Document 001, first example: νY.[back];ff and [feed];(νZ.[back] and [feed];Z;Z);(([feed];ff and
-/// [back];ff) or Y). Never more steps have been pulled back than fed.
+/// Document 001, first example:
+/// `νY.[back];ff and [feed];(νZ.[back] and [feed];Z;Z);(([feed];ff and [back];ff) or Y)`. Never more
+/// steps have been pulled back than fed.
 ///
 /// States 0 to 2 are so many steps fed. From 3 one step fed can be followed by two back. The printer
 /// wakes with nothing fed, in 0.
@@ -97,7 +98,7 @@ pub fn no_more_back_than_fed() -> Case {
     starting_in(&[0], case(&[0; 6], &steps, &nodes))
 }
 
-/// Document 004, example 2: (νZ.⟨feed⟩;(Z and τ);([back] and ⟨back⟩));([feed];ff and [back];ff).
+/// Document 004, example 2: `(νZ.⟨feed⟩;(Z and τ);([back] and ⟨back⟩));([feed];ff and [back];ff)`.
 /// Some feeding goes on for ever, and after each n steps fed exactly n can be pulled back. No
 /// state of a finite drive holds.
 ///
@@ -171,7 +172,7 @@ pub fn at_rest_after_any() -> Case {
     starting_in(&[0, 2, 3], case(&[1, 0, 1, 1], &steps, &nodes))
 }
 
-/// (νZ.τ and [back];Z;([feed] and ⟨feed⟩));cutter. As many steps as have been pulled back can be
+/// `(νZ.τ and [back];Z;([feed] and ⟨feed⟩));cutter`. As many steps as have been pulled back can be
 /// fed again, and however they are, the label is at the cutter again.
 const FED_AGAIN: [Triple; 12] = [
     Z,
@@ -227,7 +228,7 @@ pub fn lamp_not_mentioned() -> Case {
     starting_in(&[0, 1], case(&labels, &steps, &FED_AGAIN))
 }
 
-/// νZ.tight and [any current];Z. Whatever currents the motor gets, one after the other, the ribbon
+/// `νZ.tight and [any current];Z`. Whatever currents the motor gets, one after the other, the ribbon
 /// is tight. The currents are the eight actions, and one group has them all.
 ///
 /// Every current leads from 0 to 1 and from 1 to 0. In 2 the highest one makes the ribbon slack, in
@@ -244,7 +245,7 @@ pub fn tight_at_any_current() -> Case {
     ribbon(&nodes)
 }
 
-/// νZ.tight and [0];Z and [1];Z and so on to [7];Z: the same rule without a group.
+/// `νZ.tight and [0];Z and [1];Z` and so on to `[7];Z`: the same rule without a group.
 pub fn tight_at_each_current() -> Case {
     let mut nodes = vec![Z, MARK];
     for current in 0..8 {

@@ -4,7 +4,7 @@ use differential::printed::wanted;
 use differential::tally::compare;
 use std::fs;
 
-/// The 55 bytes of case F, as README has them. There are no start states.
+/// The 55 bytes of case F, as clause 9.5 has them. There are no start states.
 const F: [u8; 55] = [
     16, 0, 2, 0, 18, 0, 6, 0, 24, 0, 31, 0, 55, 0, 0, 0, // pairs
     0, 0, // labels

@@ -1,27 +1,79 @@
-// Tells which states hold of the case whose path is the argument, and whether every start state does.
-use std::{env, error::Error, fs, process};
+//! Judges a case on the set of all its states, and prints what the script `judge` prints:
+//!
+//! `cargo run --release --example holds -- [CASE]`
+//!
+//! It lends as much work area as the case needs, so no case is too large. Without a path it reads
+//! standard input. Exit status: 0 for a verdict, 1 for a refusal, whose words go to standard error,
+//! and 2 for any trouble, which is told there.
+use hoidrul::Refusal;
+use std::fs::File;
+use std::io::{self, Read, Write};
+use std::path::PathBuf;
+use std::process::ExitCode;
+use std::{env, fmt};
 
-fn main() {
-    let Some(path) = env::args().nth(1) else {
-        eprintln!("usage: holds CASE");
-        process::exit(1);
-    };
-    if let Err(error) = print_states(&path) {
-        eprintln!("{path}: {error}");
-        process::exit(1);
+fn main() -> ExitCode {
+    match run() {
+        Ok(None) => ExitCode::SUCCESS,
+        Ok(Some(refusal)) => told(1, refusal.reason),
+        Err(trouble) => told(2, trouble),
     }
 }
 
-fn print_states(path: &str) -> Result<(), Box<dyn Error>> {
-    let file = fs::read(path)?;
-    let counts = hoidrul::vet(&file, hoidrul::LABELS)?;
-    let mut work = vec![0; hoidrul::work_area(&file)?];
-    let verdict = hoidrul::judge(&file, counts.all_states(), &mut work)?;
+/// A line on standard error, and a status. (`eprintln` would panic if the line cannot be written.)
+fn told(status: u8, line: impl fmt::Display) -> ExitCode {
+    let _ = writeln!(io::stderr(), "holds: {line}");
+    ExitCode::from(status)
+}
+
+/// Prints the verdict, or the refusal, which is returned. (A standard output that is closed from the
+/// start is no trouble that could be seen: Rust opens /dev/null in its place.)
+fn run() -> Result<Option<Refusal>, String> {
+    let (print, refusal) = match page(&case()?) {
+        Ok(page) => (page, None),
+        Err(refusal) => {
+            let line = format!("refused {} {}\n", refusal.number(), refusal.place);
+            (line, Some(refusal))
+        }
+    };
+    let mut out = io::stdout().lock();
+    let written = out.write_all(print.as_bytes()).and_then(|()| out.flush());
+    written.map_err(|error| format!("the answer could not be written: {error}"))?;
+    Ok(refusal)
+}
+
+/// The bytes of the file whose path is the argument, or of standard input.
+fn case() -> Result<Vec<u8>, String> {
+    let mut paths = env::args_os().skip(1).map(PathBuf::from);
+    let (name, file) = match (paths.next(), paths.next()) {
+        (None, _) => ("standard input".into(), read(io::stdin())),
+        (Some(path), None) => (format!("{path:?}"), File::open(path).and_then(read)),
+        _ => return Err("more than one argument is given".into()),
+    };
+    file.map_err(|error| format!("cannot read {name}: {error}"))
+}
+
+/// One byte more than a case can have is enough to see that there are too many.
+fn read(source: impl Read) -> io::Result<Vec<u8>> {
+    let mut file = vec![];
+    let most = hoidrul::LONGEST as u64 + 1;
+    source.take(most).read_to_end(&mut file)?;
+    Ok(file)
+}
+
+/// What is printed of a case: how many states it has, the rounds, which states hold, and whether
+/// every start state does.
+fn page(file: &[u8]) -> Result<String, hoidrul::Refusal> {
+    let counts = hoidrul::vet(file, hoidrul::LABELS)?;
+    let mut work = vec![0; hoidrul::work_area(file)?];
+    let verdict = hoidrul::judge(file, counts.all_states(), &mut work)?;
+
+    let word = |holds| if holds { "yes" } else { "no" };
+    let mut page = format!("states {}\nrounds {}\n", counts.states, verdict.rounds);
     for state in 0..counts.states {
-        println!("{state}: {}", verdict.holds(state));
+        page += &format!("{state} {}\n", word(verdict.holds(state)));
     }
-    let starts = hoidrul::open(&file, hoidrul::STARTS)?;
-    let all_hold = starts.iter().all(|&state| verdict.holds(state.into()));
-    println!("starts: {all_hold}");
-    Ok(())
+    let starts = hoidrul::open(file, hoidrul::STARTS)?;
+    let hold = starts.iter().all(|&state| verdict.holds(state.into()));
+    Ok(page + &format!("starts {}\n", word(hold)))
 }

@@ -2,30 +2,40 @@
 //!
 //! `cargo run --release --example merge_alike -- CASE [SMALLER]`
 //!
-//! `SMALLER`, if it is named, is the file to which the smaller case is written.
+//! `SMALLER`, if it is named, is the file to which the smaller case is written. Exit status: 0, or
+//! with a line on standard error 1 for a refusal and 2 for any trouble.
 use hoidrul::{Refusal, Verdict, LABELS, LONGEST, STARTS};
+use std::env;
 use std::fmt::Display;
+use std::fs::{self, File};
+use std::io::{self, Read, Write};
 use std::path::{Path, PathBuf};
 use std::process::ExitCode;
-use std::{env, fs};
+
+/// A status, and the line that tells why.
+type Failure = (u8, String);
+
+const REFUSED: u8 = 1;
+const TROUBLE: u8 = 2;
 
 fn main() -> ExitCode {
-    match run() {
-        Ok(()) => ExitCode::SUCCESS,
-        Err(error) => {
-            eprintln!("{error}");
-            ExitCode::FAILURE
-        }
-    }
+    let Err((status, line)) = run() else {
+        return ExitCode::SUCCESS;
+    };
+    // `eprintln` would panic if the line cannot be written.
+    let _ = writeln!(io::stderr(), "{line}");
+    ExitCode::from(status)
 }
 
-fn run() -> Result<(), String> {
+fn run() -> Result<(), Failure> {
     let mut paths = env::args_os().skip(1).map(PathBuf::from);
-    let path = paths.next().ok_or("usage: merge_alike CASE [SMALLER]")?;
-    let file = fs::read(&path).map_err(|error| about(&path, error))?;
-    let smaller = show(&file).map_err(|refusal| about(&path, refusal))?;
+    let usage = "usage: merge_alike CASE [SMALLER]";
+    let path = paths.next().ok_or((TROUBLE, usage.into()))?;
+    let file = read(&path).map_err(|error| (TROUBLE, about(&path, error)))?;
+    let (page, smaller) = merged(&file).map_err(|refusal| (REFUSED, about(&path, refusal)))?;
+    print(&page).map_err(|error| (TROUBLE, format!("standard output: {error}")))?;
     if let Some(path) = paths.next() {
-        fs::write(&path, smaller).map_err(|error| about(&path, error))?;
+        fs::write(&path, smaller).map_err(|error| (TROUBLE, about(&path, error)))?;
     }
     Ok(())
 }
@@ -35,23 +45,38 @@ fn about(path: &Path, error: impl Display) -> String {
     format!("{}: {error}", path.display())
 }
 
-/// Prints the verdicts before and after, and returns the smaller case.
-fn show(file: &[u8]) -> Result<Vec<u8>, Refusal> {
+/// One byte more than a case can have is enough to see that there are too many.
+fn read(path: &Path) -> io::Result<Vec<u8>> {
+    let mut file = vec![];
+    let most = LONGEST as u64 + 1;
+    File::open(path)?.take(most).read_to_end(&mut file)?;
+    Ok(file)
+}
+
+/// (`print` would panic if the page cannot be written.)
+fn print(page: &str) -> io::Result<()> {
+    let mut out = io::stdout().lock();
+    out.write_all(page.as_bytes())?;
+    out.flush()
+}
+
+/// What is printed, with the verdicts before and after, and the smaller case.
+fn merged(file: &[u8]) -> Result<(String, Vec<u8>), Refusal> {
     let classes = classes(file)?;
     let smaller = merge_alike(file, &classes)?;
     let (before, after) = (judge(file)?, judge(&smaller)?);
 
     let kept = classes.iter().zip(0..).filter(|&(&lowest, s)| lowest == s);
-    println!("states {}, merged {}", classes.len(), kept.count());
-    println!("rounds {}, merged {}", before.rounds, after.rounds);
+    let mut page = format!("states {}, merged {}\n", classes.len(), kept.count());
+    page += &format!("rounds {}, merged {}\n", before.rounds, after.rounds);
     for state in 0..classes.len() {
         let stands = standing(&classes, state);
         let (holds, still) = (before.holds(state), after.holds(stands));
-        println!("{state} {}, as {stands} {}", word(holds), word(still));
+        page += &format!("{state} {}, as {stands} {}\n", word(holds), word(still));
     }
     let (hold, still) = (starts_hold(file, before)?, starts_hold(&smaller, after)?);
-    println!("starts {}, merged {}", word(hold), word(still));
-    Ok(smaller)
+    page += &format!("starts {}, merged {}\n", word(hold), word(still));
+    Ok((page, smaller))
 }
 
 /// The verdict on the set of all states.

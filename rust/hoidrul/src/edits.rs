@@ -14,7 +14,11 @@ use crate::{ffi, Refusal};
 /// that the root reaches, where a group of actions stands for all of them. Other label bits and steps
 /// make no difference.
 ///
-/// Refusals: 1 to 7, then 13 for an area shorter than the result.
+/// # Errors
+///
+/// Refusals 1 to 7 if the file is no case; then 13 ([`Room`]) for an area shorter than the result.
+///
+/// # Examples
 ///
 /// ```
 /// // Three states, a step of action 0 from each of 0 and 1 to 2; the rule ⟨0⟩ does not look at
@@ -34,6 +38,8 @@ use crate::{ffi, Refusal};
 /// assert_eq!(refusal.reason, hoidrul::Reason::Room);
 /// # Ok::<(), hoidrul::Refusal>(())
 /// ```
+///
+/// [`Room`]: crate::Reason::Room
 pub fn classes(file: &[u8], out: &mut [u8]) -> Result<usize, Refusal> {
     count(ffi::classes(file, out))
 }
@@ -44,8 +50,13 @@ pub fn classes(file: &[u8], out: &mut [u8]) -> Result<usize, Refusal> {
 /// does not look; steps of the higher are dropped. States above the higher move down by one. On the
 /// set of all states, each state holds exactly if the state standing for it does.
 ///
-/// Refusals: 1 to 7, then 8 for a state beyond the case, 10 for a state with itself or states not
-/// alike, 13 for an area shorter than the result.
+/// # Errors
+///
+/// Refusals 1 to 7 if the file is no case; then 8 ([`Beyond`]) for a state beyond the case, 10
+/// ([`Unlike`]) for a state with itself or states not alike, 13 ([`Room`]) for an area shorter than
+/// the result.
+///
+/// # Examples
 ///
 /// ```
 /// // The case of `classes`.
@@ -66,6 +77,10 @@ pub fn classes(file: &[u8], out: &mut [u8]) -> Result<usize, Refusal> {
 /// assert_eq!(refusal.reason, hoidrul::Reason::Unlike);
 /// # Ok::<(), hoidrul::Refusal>(())
 /// ```
+///
+/// [`Beyond`]: crate::Reason::Beyond
+/// [`Unlike`]: crate::Reason::Unlike
+/// [`Room`]: crate::Reason::Room
 pub fn merge(file: &[u8], s: usize, t: usize, out: &mut [u8]) -> Result<usize, Refusal> {
     count(ffi::merge(file, s, t, out))
 }
@@ -85,8 +100,13 @@ pub fn merge(file: &[u8], s: usize, t: usize, out: &mut [u8]) -> Result<usize, R
 /// | 8 | A or A, A and A, one node named twice | A |
 /// | 9 | A or B, A and B | B or A, B and A |
 ///
-/// Refusals: 1 to 7, then 11 where there is no such law or node or its shape does not fit, 12 where
-/// the rule would pass 64 nodes, 13 for an area shorter than the result.
+/// # Errors
+///
+/// Refusals 1 to 7 if the file is no case; then 11 ([`Shape`]) where there is no such law or node or
+/// its shape does not fit, 12 ([`TooManyNodes`]) where the rule would pass 64 nodes, 13 ([`Room`])
+/// for an area shorter than the result.
+///
+/// # Examples
 ///
 /// ```
 /// // One state, no steps, the rule tt or ff, no start states; law 9 swaps tt and ff.
@@ -105,6 +125,10 @@ pub fn merge(file: &[u8], s: usize, t: usize, out: &mut [u8]) -> Result<usize, R
 /// assert_eq!(refusal.reason, hoidrul::Reason::Shape);
 /// # Ok::<(), hoidrul::Refusal>(())
 /// ```
+///
+/// [`Shape`]: crate::Reason::Shape
+/// [`TooManyNodes`]: crate::Reason::TooManyNodes
+/// [`Room`]: crate::Reason::Room
 pub fn rewrite(file: &[u8], law: usize, node: usize, out: &mut [u8]) -> Result<usize, Refusal> {
     count(ffi::rewrite(file, law, node, out))
 }

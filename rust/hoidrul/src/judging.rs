@@ -1,9 +1,11 @@
 //! Judging: the root's function at a set of states, and whether the start states hold.
 use crate::refusal::answer;
-use crate::{ffi, open, vet, Refusal, LABELS, STARTS};
+use crate::{ffi, open, vet, Refusal, LABELS, MOST_STATES, STARTS};
 
 /// What judging answers.
+#[must_use]
 #[derive(Clone, Copy, Debug, PartialEq, Eq, Hash)]
+#[non_exhaustive]
 pub struct Verdict {
     /// The root's function at the given set: bit i is state i.
     pub set: u16,
@@ -15,8 +17,9 @@ pub struct Verdict {
 impl Verdict {
     /// Whether the state is in the set: judged on the set of all states, whether it holds. A state
     /// beyond the case is not.
+    #[must_use]
     pub fn holds(self, state: usize) -> bool {
-        state < 16 && self.set >> state & 1 == 1
+        state < MOST_STATES && self.set >> state & 1 == 1
     }
 }
 
@@ -27,8 +30,12 @@ impl Verdict {
 /// This can take hours: a binder takes up to n × 2^n rounds, and nested binders of alternating
 /// kinds multiply theirs. Only ending the process stops a call.
 ///
-/// Refusals: 1 to 7, then 8 for a set beyond the case, then 9 for a work area of fewer words than
-/// [`work_area`] tells.
+/// # Errors
+///
+/// Refusals 1 to 7 if the file is no case; then 8 ([`Beyond`]) for a set beyond the case, then 9
+/// ([`Work`]) for a work area of fewer words than [`work_area`] tells.
+///
+/// # Examples
 ///
 /// ```
 /// // Two states, a step of action 0 from 0 to 1; the rule μZ.τ or ⟨0⟩;Z: some steps lead there.
@@ -49,6 +56,9 @@ impl Verdict {
 /// assert_eq!(refusal.reason, hoidrul::Reason::Beyond);
 /// # Ok::<(), hoidrul::Refusal>(())
 /// ```
+///
+/// [`Beyond`]: crate::Reason::Beyond
+/// [`Work`]: crate::Reason::Work
 pub fn judge(file: &[u8], set: u16, work: &mut [u16]) -> Result<Verdict, Refusal> {
     let reply = answer(ffi::judge(file, set, work))?;
     Ok(Verdict {
@@ -63,7 +73,12 @@ pub fn judge(file: &[u8], set: u16, work: &mut [u16]) -> Result<Verdict, Refusal
 /// The work area and the time are those of [`judge`]. Who has the verdict on all states already
 /// need not judge again: the start states are the bytes of the section [`STARTS`].
 ///
-/// Refusals: 1 to 7, then 9 for a work area of fewer words than [`work_area`] tells.
+/// # Errors
+///
+/// Refusals 1 to 7 if the file is no case; then 9 ([`Work`]) for a work area of fewer words than
+/// [`work_area`] tells.
+///
+/// # Examples
 ///
 /// ```
 /// // Two states, of which 0 has proposition 0; no steps, the rule p0, and a list of start states.
@@ -84,6 +99,8 @@ pub fn judge(file: &[u8], set: u16, work: &mut [u16]) -> Result<Verdict, Refusal
 /// assert_eq!(refusal.reason, hoidrul::Reason::Work);
 /// # Ok::<(), hoidrul::Refusal>(())
 /// ```
+///
+/// [`Work`]: crate::Reason::Work
 pub fn starts_hold(file: &[u8], work: &mut [u16]) -> Result<bool, Refusal> {
     let all = vet(file, STARTS)?.all_states();
     let verdict = judge(file, all, work)?;
@@ -93,7 +110,11 @@ pub fn starts_hold(file: &[u8], work: &mut [u16]) -> Result<bool, Refusal> {
 
 /// How many words of work area are enough to judge the case: 2 × m × 2^n.
 ///
-/// Refusals: 1 to 7.
+/// # Errors
+///
+/// Refusals 1 to 7 if the file is no case.
+///
+/// # Examples
 ///
 /// ```
 /// // One state, no steps, the rule τ.

@@ -39,10 +39,14 @@
 //! The entries are those of the proved archive libhoidrul.a, which `rt staticlib hoidrul` makes. It
 //! is linked from target/staticlib of the repository, or from the folder that the environment
 //! variable `HOIDRUL_LIB_DIR` names at build time: an absolute path, or one from this package's
-//! folder. Set to nothing, it serves `cargo check` and `cargo doc` where there is no archive.
+//! folder. Set to nothing, it serves `cargo check` and `cargo doc` where there is no archive. An
+//! archive is for x86-64 Linux, and the build stops for any other target.
 //!
-//! Take the binding and the archive of one version. A call panics if a newer archive refuses it
-//! with a number that [`Reason`] does not have.
+//! Take the binding and the archive of one version. If a newer archive refuses with a number that
+//! this binding does not know, the reason is [`Reason::Unknown`].
+//!
+//! The binding needs `core` alone, and the archive `memcpy` and `memset`.
+#![no_std]
 #![deny(unsafe_code)]
 #![warn(missing_docs)]
 
@@ -50,23 +54,20 @@ mod edits;
 #[allow(unsafe_code)]
 mod ffi;
 mod judging;
+mod limits;
 mod refusal;
 mod sections;
 
 pub use edits::{classes, merge, rewrite};
 pub use judging::{judge, starts_hold, work_area, Verdict};
-pub use refusal::{Reason, Refusal};
+pub use limits::{
+    LONGEST, MOST_ACTIONS, MOST_LAWS, MOST_NODES, MOST_PADDING, MOST_PROPOSITIONS, MOST_STATES,
+    MOST_VARIABLES, STACK,
+};
+pub use refusal::{Reason, Refusal, UnknownReason};
 pub use sections::{open, vet, Counts, LABELS, RULE, STARTS, STEPS};
 
-/// The snippets of the README.
+/// The snippets of docs/ENTRIES.md.
 #[cfg(doctest)]
-#[doc = include_str!("../../../README.md")]
-struct Readme;
-
-/// The longest case, in bytes, with its padding. An output area of this length has room for every
-/// result, which is packed and has at most 6,385 bytes.
-pub const LONGEST: usize = 6_394;
-
-/// Enough stack for a thread that calls, in bytes. In tests a call took at most 13,256 bytes.
-/// Rust's threads have more unless they are built with less.
-pub const STACK: usize = 128 * 1024;
+#[doc = include_str!("../../../docs/ENTRIES.md")]
+struct Entries;

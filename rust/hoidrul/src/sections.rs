@@ -1,6 +1,6 @@
 //! Vetting a case and opening its sections.
 use crate::refusal::answer;
-use crate::{ffi, Refusal};
+use crate::{ffi, Refusal, MOST_STATES};
 
 /// The section of labels: a byte a state, bit i for proposition i.
 pub const LABELS: usize = 0;
@@ -35,6 +35,7 @@ pub const STARTS: usize = 3;
 
 /// What vetting answers: how many states and nodes there are.
 #[derive(Clone, Copy, Debug, PartialEq, Eq, Hash)]
+#[non_exhaustive]
 pub struct Counts {
     /// n, 1 to 16.
     pub states: usize,
@@ -44,14 +45,21 @@ pub struct Counts {
 
 impl Counts {
     /// The set of all states: bit i is state i.
+    #[must_use]
     pub fn all_states(self) -> u16 {
-        (0..self.states.min(16)).map(|state| 1 << state).sum()
+        (0..self.states.min(MOST_STATES))
+            .map(|state| 1 << state)
+            .sum()
     }
 }
 
 /// Vets the whole case, then the section number.
 ///
-/// Refusals: 1 to 7, then 8 for a number that is no section's.
+/// # Errors
+///
+/// Refusals 1 to 7 if the file is no case; then 8 ([`Beyond`]) for a number that is no section's.
+///
+/// # Examples
 ///
 /// ```
 /// // One state, no steps, the rule τ.
@@ -64,6 +72,8 @@ impl Counts {
 /// assert_eq!(refusal.reason, hoidrul::Reason::Beyond);
 /// # Ok::<(), hoidrul::Refusal>(())
 /// ```
+///
+/// [`Beyond`]: crate::Reason::Beyond
 pub fn vet(file: &[u8], section: usize) -> Result<Counts, Refusal> {
     let counts = answer(ffi::vet(file, section))?;
     Ok(Counts {
@@ -75,7 +85,11 @@ pub fn vet(file: &[u8], section: usize) -> Result<Counts, Refusal> {
 /// Opens a section: a part of the lent file, without copying and without padding. Steps and start
 /// states may be empty.
 ///
-/// Refusals: those of [`vet`].
+/// # Errors
+///
+/// The refusals of [`vet`].
+///
+/// # Examples
 ///
 /// ```
 /// use hoidrul::{open, LABELS, RULE, STARTS, STEPS};

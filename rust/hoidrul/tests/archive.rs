@@ -45,3 +45,22 @@ fn a_missing_archive_stops_the_build() {
 fn checked_without_an_archive() {
     told(&mut cargo(&["check"], "checked"), Path::new(""), true);
 }
+
+/// By the processor, the system and the width of pointers. Without an archive the target is not
+/// looked at; whether Rust's library is there for it is another question.
+#[test]
+fn other_targets() {
+    for target in [
+        "aarch64-unknown-linux-gnu",
+        "x86_64-apple-darwin",
+        "x86_64-unknown-linux-gnux32",
+    ] {
+        let line = format!("libhoidrul.a is for x86-64 Linux and not for {target}");
+        let check = || cargo(&["check", "--target", target], "targets");
+        let text = told(&mut check(), Path::new(env!("HOIDRUL_ARCHIVE_DIR")), false);
+        assert!(text.contains(&line), "{text}");
+        let without = run(check().env("HOIDRUL_LIB_DIR", ""));
+        let text = common::text(without.stderr);
+        assert!(!text.contains("libhoidrul.a"), "{text}");
+    }
+}

@@ -1,16 +1,22 @@
 //! The example `merge_alike`.
 mod common;
 
-use common::{case, example, no_case, printed, scratch, told};
-use std::fs;
+use common::{case, example, no_case, printed, run, scratch, told};
+use std::fs::{self, File};
+use std::io;
 use std::path::Path;
+use std::process::{Output, Stdio};
+
+fn merge_alike(paths: &[&Path]) -> Output {
+    run(&mut example("merge_alike", paths))
+}
 
 /// All states of both rings are alike, for each has one step, of action 0, to another of them.
 /// Two states are left: 0 with its two arms, and one ring of one state.
 #[test]
 fn two_wheels() {
     let smaller = scratch("merged_wheels.case");
-    let merge = |path: &Path| printed(example("merge_alike", &[path, &smaller]));
+    let merge = |path: &Path| printed(merge_alike(&[path, &smaller]));
     let mut print = String::from("states 8, merged 2\nrounds 12, merged 1\n0 yes, as 0 yes\n");
     print.extend((1..8).map(|state| format!("{state} no, as 1 no\n")));
     print += "starts yes, merged yes\n";
@@ -29,7 +35,7 @@ fn two_wheels() {
 fn start_states_are_carried() {
     let smaller = scratch("merged_ribbon.case");
     let path = case("tight_at_any_current.case");
-    let print = printed(example("merge_alike", &[&path, &smaller]));
+    let print = printed(merge_alike(&[&path, &smaller]));
     assert!(print.starts_with("states 6, merged 5\n"), "{print}");
     assert!(print.ends_with("\nstarts yes, merged yes\n"), "{print}");
     let file = fs::read(&smaller).unwrap();
@@ -41,7 +47,7 @@ fn start_states_are_carried() {
 fn a_lamp() {
     let smaller = scratch("merged_lamp.case");
     let path = case("lamp_not_mentioned.case");
-    let print = printed(example("merge_alike", &[&path, &smaller]));
+    let print = printed(merge_alike(&[&path, &smaller]));
     let lines = [
         "states 6, merged 4",
         "rounds 0, merged 0",
@@ -63,21 +69,36 @@ fn a_lamp() {
 
 #[test]
 fn errors_name_their_file() {
-    let told = |paths: &[&Path]| told(example("merge_alike", paths));
-    assert_eq!(told(&[]), "usage: merge_alike CASE [SMALLER]\n");
-    for bad in [no_case(), scratch("")] {
-        let name = format!("{}: ", bad.display());
-        assert!(told(&[&bad]).starts_with(&name));
-    }
+    let usage = told(merge_alike(&[]), 2);
+    assert_eq!(usage, "usage: merge_alike CASE [SMALLER]\n");
+    let folder = scratch("");
+    let line = told(merge_alike(&[&folder]), 2);
+    assert!(line.starts_with(&format!("{}: ", folder.display())));
     let refusal = hoidrul::vet(&fs::read(no_case()).unwrap(), 0).unwrap_err();
-    assert!(told(&[&no_case()]).ends_with(&format!(": {refusal}\n")));
+    let line = format!("{}: {refusal}\n", no_case().display());
+    assert_eq!(told(merge_alike(&[&no_case()]), 1), line);
+    assert!(told(merge_alike(&[Path::new("/dev/zero")]), 1).contains("refused 1 0"));
 }
 
 /// The smaller case is written last, so the verdicts are out by then.
 #[test]
 fn a_folder_cannot_be_written() {
-    let output = example("merge_alike", &[&case("f.case"), &scratch("")]);
-    assert_eq!(output.status.code(), Some(1));
+    let output = merge_alike(&[&case("f.case"), &scratch("")]);
+    assert_eq!(output.status.code(), Some(2));
     let name = format!("{}: ", scratch("").display());
     assert!(output.stderr.starts_with(name.as_bytes()));
+}
+
+/// A full device and a pipe that nobody reads.
+#[test]
+fn no_output() {
+    let full = File::options().write(true).open("/dev/full").unwrap();
+    let (_, pipe) = io::pipe().unwrap();
+    for out in [Stdio::from(full), pipe.into()] {
+        let path = case("two_wheels.case");
+        let output = run(example("merge_alike", &[&path]).stdout(out));
+        let line = told(output, 2);
+        assert!(line.starts_with("standard output: "), "{line}");
+        assert_eq!(line.lines().count(), 1, "{line}");
+    }
 }

@@ -1,27 +1,15 @@
 //! Every entry in threads of `STACK` bytes of stack, many at once, on the cases that need the most.
-use hoidrul::{Refusal, LABELS, LONGEST, RULE, STACK};
+mod common;
+
+use common::Triple;
+use hoidrul::{Refusal, LABELS, LONGEST, MOST_PADDING, RULE, STACK};
 use std::sync::Barrier;
 use std::thread::{self, Builder};
 
-type Triple = [u8; 3];
-
-/// The file of a case whose root is its last node, and whose states are all start states, with as
-/// much padding as there can be.
+/// The file of a case whose states are all start states, with as much padding as there can be.
 fn file(labels: &[u8], steps: &[Triple], nodes: &[Triple]) -> Vec<u8> {
-    let (steps, mut rule) = (steps.concat(), nodes.concat());
-    rule.push(nodes.len() as u8 - 1);
     let starts: Vec<u8> = (0..labels.len() as u8).collect();
-    let sections = [labels, &steps, &rule, &starts];
-    let mut file = vec![];
-    let mut offset = 16;
-    for section in sections {
-        for number in [offset, section.len()] {
-            file.extend((number as u16).to_le_bytes());
-        }
-        offset += section.len() + 3;
-    }
-    file.extend(sections.join(&[0; 3][..]));
-    file
+    common::file(labels, steps, nodes, &starts, MOST_PADDING)
 }
 
 /// Every step that 16 states can have, in order.

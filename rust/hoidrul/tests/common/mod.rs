@@ -1,5 +1,8 @@
 //! What the tests share.
 #![allow(dead_code)] // No test needs all of it.
+pub mod c;
+
+use std::ffi::OsStr;
 use std::path::{Path, PathBuf};
 use std::process::{Command, Output};
 
@@ -14,8 +17,8 @@ pub fn case(name: &str) -> PathBuf {
 }
 
 /// A file to be written.
-pub fn scratch(name: &str) -> PathBuf {
-    Path::new(env!("CARGO_TARGET_TMPDIR")).join(name)
+pub fn scratch(name: impl AsRef<OsStr>) -> PathBuf {
+    Path::new(env!("CARGO_TARGET_TMPDIR")).join(name.as_ref())
 }
 
 /// A file that is no case: this package's manifest.
@@ -33,10 +36,11 @@ pub fn cargo(command: &[&str], target: &str) -> Command {
     cargo
 }
 
-/// Builds and runs an example.
-pub fn example(name: &str, paths: &[&Path]) -> Output {
+/// A command that builds an example and becomes it.
+pub fn example(name: &str, paths: &[&Path]) -> Command {
     let mut cargo = cargo(&["run", "--quiet", "--example", name], "examples");
-    run(cargo.arg("--").args(paths))
+    cargo.arg("--").args(paths);
+    cargo
 }
 
 pub fn run(command: &mut Command) -> Output {
@@ -50,15 +54,39 @@ pub fn printed(output: Output) -> String {
     text(output.stdout)
 }
 
-/// What a program told that failed and printed nothing.
-pub fn told(output: Output) -> String {
-    assert_eq!(
-        (output.status.code(), text(output.stdout)),
-        (Some(1), "".into())
-    );
-    text(output.stderr)
+/// What a program told that ended with this status and printed nothing.
+pub fn told(output: Output, status: i32) -> String {
+    let said = text(output.stderr);
+    let ended = (output.status.code(), text(output.stdout));
+    assert_eq!(ended, (Some(status), "".into()), "{said}");
+    said
 }
 
-fn text(bytes: Vec<u8>) -> String {
+pub fn text(bytes: Vec<u8>) -> String {
     String::from_utf8(bytes).expect("text")
+}
+
+pub type Triple = [u8; 3];
+
+/// The file of a case whose root is its last node, with so many bytes of padding between sections.
+pub fn file(
+    labels: &[u8],
+    steps: &[Triple],
+    nodes: &[Triple],
+    starts: &[u8],
+    gap: usize,
+) -> Vec<u8> {
+    let (steps, mut rule) = (steps.concat(), nodes.concat());
+    rule.push(nodes.len().saturating_sub(1) as u8);
+    let sections = [labels, &steps, &rule, starts];
+    let mut file = vec![];
+    let mut offset = 16;
+    for section in sections {
+        for number in [offset, section.len()] {
+            file.extend((number as u16).to_le_bytes());
+        }
+        offset += section.len() + gap;
+    }
+    file.extend(sections.join(&vec![0; gap][..]));
+    file
 }

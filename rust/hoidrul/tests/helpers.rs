@@ -1,0 +1,226 @@
+//! What the C header's helpers say of answers, of refusals and of any numbers.
+mod common;
+
+use common::c::{bytes, check, number, Line};
+use common::{case, file};
+use hoidrul::Reason;
+use std::fs;
+
+/// Two states, of which 0 has proposition 0, and the rule p0 or ff, with a list of start states.
+fn two(starts: &[u8]) -> Vec<u8> {
+    let nodes = [[2, 0, 0], [1, 0, 0], [8, 0, 1]];
+    file(&[1, 0], &[[0, 0, 1]], &nodes, starts, 0)
+}
+
+/// Two alike states, and a rule that law 4 would make too long: 64 nodes, of which 62 is (A;B);C.
+fn full() -> Vec<u8> {
+    let mut nodes = vec![[5, 0, 0]; 64];
+    nodes[61] = [10, 0, 1];
+    nodes[62] = [10, 61, 2];
+    file(&[0, 0], &[], &nodes, &[], 0)
+}
+
+/// Files that every entry refuses, in the order of their numbers from 1 on, and the places.
+fn refused_files() -> [(Vec<u8>, u64); 7] {
+    let nodes = |nodes: &[_]| file(&[0, 0], &[], nodes, &[], 0);
+    let tau = [5, 0, 0];
+    [
+        (vec![0], 0),
+        (file(&[], &[], &[tau], &[], 0), 0),
+        (file(&[0], &[[0, 0, 0], [0, 8, 0]], &[tau], &[], 0), 1),
+        (nodes(&[]), 0),
+        (nodes(&[tau, tau, tau, [15, 0, 0]]), 3),
+        (nodes(&[[4, 0, 0], [11, 0, 0], [12, 0, 1]]), 2),
+        (nodes(&[[4, 0, 0]]), 0),
+    ]
+}
+
+/// The files, areas to lend, and a file with its length as two arguments.
+fn data() -> String {
+    let mut data = String::from("#define CASE(name) name, sizeof name\n");
+    data += "uint16_t work[80];\nuint8_t out[HOIDRUL_LONGEST];\n";
+    data += &bytes("holding", &two(&[0]));
+    data += &bytes("failing", &two(&[0, 1]));
+    data += &bytes("starting_nowhere", &two(&[]));
+    data += &bytes("full", &full());
+    data += &bytes("f", &fs::read(case("f.case")).unwrap());
+    for (i, (file, _)) in (1..).zip(refused_files()) {
+        data += &bytes(&format!("refused_{i}"), &file);
+    }
+    data
+}
+
+/// Calls that are refused, with number and place.
+fn refused_calls() -> Vec<(String, u64, u64)> {
+    let mut calls = vec![];
+    for (i, (_, place)) in (1..).zip(refused_files()) {
+        for (entry, arguments) in [
+            ("vet", "2"),
+            ("judge", "3, work, 80"),
+            ("classes", "out, sizeof out"),
+            ("merge", "0, 1, out, sizeof out"),
+            ("rewrite", "9, 0, out, sizeof out"),
+        ] {
+            let call = format!("hoidrul_{entry}(CASE(refused_{i}), {arguments})");
+            calls.push((call, i, place));
+        }
+    }
+    let others = [
+        ("vet(NULL, 0, 0)", 1),
+        ("vet(CASE(holding), 4)", 8),
+        ("judge(CASE(holding), 4, work, 80)", 8),
+        ("judge(CASE(holding), 3, work, 23)", 9),
+        ("judge(CASE(holding), 3, NULL, 0)", 9),
+        ("classes(CASE(holding), NULL, 0)", 13),
+        ("merge(CASE(holding), 0, 2, out, sizeof out)", 8),
+        ("merge(CASE(holding), 1, 1, out, sizeof out)", 10),
+        ("merge(CASE(holding), 0, 1, out, sizeof out)", 10),
+        ("merge(CASE(full), 0, 1, NULL, 0)", 13),
+        ("rewrite(CASE(holding), 10, 2, out, sizeof out)", 11),
+        ("rewrite(CASE(full), 4, 62, out, sizeof out)", 12),
+        ("rewrite(CASE(holding), 9, 2, NULL, 0)", 13),
+    ];
+    calls.extend(others.map(|(call, number)| (format!("hoidrul_{call}"), number, 0)));
+    calls
+}
+
+/// What takes an answer apart.
+const HELPERS: [&str; 8] = [
+    "answer", "states", "nodes", "offset", "length", "set", "rounds", "written",
+];
+const STATES: [&str; 6] = ["0", "1", "2", "15", "16", "SIZE_MAX"];
+const JUDGED: &str = "hoidrul_judge(CASE(holding), 3, work, 80)";
+const OPENED: &str = "hoidrul_open(CASE(holding), 3)";
+const NOWHERE: &str = "hoidrul_open(CASE(starting_nowhere), 3)";
+
+fn starts_hold(file: &str, opened: &str, judged: &str, hold: u64) -> Line {
+    let call = format!("hoidrul_starts_hold({file}, {opened}, {judged})");
+    number(call, hold)
+}
+
+/// Of a refusal there are number and place, and nothing else.
+fn refusal(reply: &str, reason: u64, place: u64) -> Vec<Line> {
+    let mut lines = vec![
+        number(format!("hoidrul_refused({reply})"), 1),
+        number(format!("hoidrul_number({reply})"), reason),
+        number(format!("hoidrul_place({reply})"), place),
+        starts_hold("holding", OPENED, reply, 0),
+        starts_hold("starting_nowhere", NOWHERE, reply, 0),
+        starts_hold("holding", reply, JUDGED, 0),
+        starts_hold("holding", "0", reply, 0),
+        starts_hold("holding", reply, reply, 0),
+    ];
+    lines.extend(HELPERS.map(|helper| number(format!("hoidrul_{helper}({reply})"), 0)));
+    lines.extend(STATES.map(|state| number(format!("hoidrul_holds({reply}, {state})"), 0)));
+    lines
+}
+
+#[test]
+fn refused_replies() {
+    let calls = refused_calls();
+    for reason in Reason::ALL {
+        let number = u64::from(reason.number());
+        assert!(calls.iter().any(|call| call.1 == number), "{reason:?}");
+    }
+    let lines = calls
+        .iter()
+        .map(|(call, i, place)| refusal(call, *i, *place));
+    check("refused_replies", &data(), &Vec::from_iter(lines).concat());
+}
+
+/// Also numbers that this version does not give, and places with every bit of an answer.
+#[test]
+fn any_refusal() {
+    let mut lines = vec![];
+    for number in (0..=20).chain([0x7fff_ffff]) {
+        for place in [0, 1, 0x1_ffff, 0xffff_ffff] {
+            let reply = (1 << 63) + (number << 32) + place;
+            lines.extend(refusal(&format!("UINT64_C({reply})"), number, place));
+        }
+    }
+    check("any_refusal", &data(), &lines);
+}
+
+/// Opening refuses by 0, of which there is nothing to say.
+#[test]
+fn refused_openings() {
+    let mut lines = vec![];
+    let files = (1..=7).map(|i| (format!("refused_{i}"), 3));
+    for (file, section) in files.chain([("holding".into(), 4)]) {
+        let opened = format!("hoidrul_open(CASE({file}), {section})");
+        lines.push(number(&opened, 0));
+        lines.push(starts_hold(&file, &opened, JUDGED, 0));
+    }
+    lines.push(number("hoidrul_open(NULL, 0, 0)", 0));
+    lines.push(starts_hold("NULL", "0", JUDGED, 0));
+    for helper in ["refused", "number", "place", "offset", "length"] {
+        lines.push(number(format!("hoidrul_{helper}(0)"), 0));
+    }
+    check("refused_openings", &data(), &lines);
+}
+
+/// Each answer with helpers and what they say of it.
+#[test]
+fn answers() {
+    let mut out = [0; hoidrul::LONGEST];
+    let merged = hoidrul::merge(&full(), 0, 1, &mut out).unwrap();
+    let calls: [(&str, &[(&str, u64)]); 8] = [
+        ("vet(CASE(holding), 0)", &[("states", 2), ("nodes", 3)]),
+        ("open(CASE(holding), 1)", &[("offset", 18), ("length", 3)]),
+        ("open(CASE(f), 3)", &[("offset", 55), ("length", 0)]),
+        ("judge(CASE(f), 3, work, 80)", &[("set", 3), ("rounds", 2)]),
+        ("judge(CASE(f), 0, work, 80)", &[("set", 1), ("rounds", 2)]),
+        ("classes(CASE(f), out, 2)", &[("written", 2)]),
+        (
+            "merge(CASE(full), 0, 1, out, sizeof out)",
+            &[("written", merged as u64)],
+        ),
+        (
+            "rewrite(CASE(f), 9, 8, out, 55)",
+            &[("written", 55), ("answer", 55)],
+        ),
+    ];
+    let mut lines = vec![];
+    for (call, said) in calls {
+        let none = [("refused", 0), ("number", 0), ("place", 0)];
+        for (helper, value) in none.iter().chain(said) {
+            lines.push(number(format!("hoidrul_{helper}(hoidrul_{call})"), *value));
+        }
+    }
+    for (state, holds) in STATES.iter().zip([1, 0, 0, 0, 0, 0]) {
+        lines.push(number(format!("hoidrul_holds({JUDGED}, {state})"), holds));
+    }
+    check("answers", &data(), &lines);
+}
+
+/// State 0 holds and state 1 does not. Where there is no start state, none fails.
+#[test]
+fn start_states() {
+    let failing = "hoidrul_open(CASE(failing), 3)";
+    let lines = [
+        starts_hold("holding", OPENED, JUDGED, 1),
+        starts_hold("failing", failing, JUDGED, 0),
+        starts_hold("starting_nowhere", NOWHERE, JUDGED, 1),
+        // The empty set, which is an answer.
+        starts_hold("holding", OPENED, "0", 0),
+        starts_hold("starting_nowhere", NOWHERE, "0", 1),
+    ];
+    check("start_states", &data(), &lines);
+}
+
+/// More than a case can have counts as the most.
+#[test]
+fn any_numbers() {
+    let sizes = [0, 1, 2, 15, 16, 17, 31, 32, 33, 63, 64, 65, 128, u64::MAX];
+    let mut lines = vec![];
+    for n in sizes {
+        let states = n.min(16);
+        let call = format!("hoidrul_all_states(UINT64_C({n}))");
+        lines.push(number(call, (1 << states) - 1));
+        for m in sizes {
+            let call = format!("hoidrul_words(UINT64_C({n}), UINT64_C({m}))");
+            lines.push(number(call, (2 * m.min(64)) << states));
+        }
+    }
+    check("any_numbers", "", &lines);
+}

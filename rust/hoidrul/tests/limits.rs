@@ -1,0 +1,84 @@
+//! The limits that the constants tell, by the replies at each and beyond it.
+mod common;
+
+use common::{file, Triple};
+use hoidrul::{
+    Reason, Refusal, LABELS, LONGEST, MOST_ACTIONS, MOST_LAWS, MOST_NODES, MOST_PADDING,
+    MOST_PROPOSITIONS, MOST_STATES, MOST_VARIABLES,
+};
+
+const TAU: Triple = [5, 0, 0];
+
+/// The file of so much is a case, and with one more it is refused for this reason.
+fn ends_at(most: usize, reason: Reason, file: impl Fn(u8) -> Vec<u8>) {
+    let vet = |size: usize| hoidrul::vet(&file(size as u8), LABELS);
+    assert!(vet(most).is_ok());
+    assert_eq!(vet(most + 1).map_err(|refusal| refusal.reason), Err(reason));
+}
+
+/// One state with these steps and nodes.
+fn one(steps: &[Triple], nodes: &[Triple]) -> Vec<u8> {
+    file(&[0], steps, nodes, &[], 0)
+}
+
+#[test]
+fn of_a_case() {
+    ends_at(MOST_STATES, Reason::Labels, |n| {
+        file(&vec![0; n.into()], &[], &[TAU], &[], 0)
+    });
+    ends_at(MOST_NODES, Reason::Rule, |m| one(&[], &vec![TAU; m.into()]));
+    ends_at(MOST_ACTIONS, Reason::Steps, |count| {
+        one(&[[0, count - 1, 0]], &[TAU])
+    });
+    ends_at(MOST_ACTIONS, Reason::Node, |count| {
+        one(&[], &[[6, count - 1, 0]])
+    });
+    ends_at(MOST_PROPOSITIONS, Reason::Node, |count| {
+        one(&[], &[[2, count - 1, 0]])
+    });
+    ends_at(MOST_VARIABLES, Reason::Node, |count| {
+        one(&[], &[TAU, [11, count - 1, 0]])
+    });
+    ends_at(MOST_PADDING, Reason::Pairs, |gap| {
+        file(&[0], &[], &[TAU], &[0], gap.into())
+    });
+}
+
+/// A head of 16 bytes, all labels, all steps, all nodes and the root, all start states, three gaps.
+#[test]
+fn of_a_file() {
+    let steps = 3 * MOST_STATES * MOST_ACTIONS * MOST_STATES;
+    let sections = MOST_STATES + steps + 3 * MOST_NODES + 1 + MOST_STATES;
+    assert_eq!(LONGEST, 16 + sections + 3 * MOST_PADDING);
+}
+
+/// Each law fits some node of this rule, and no law of another number does.
+#[test]
+fn of_laws() {
+    let nodes = [
+        TAU,
+        [0, 0, 0],
+        [10, 0, 1], // law 1
+        [10, 1, 0], // laws 2 and 3
+        [10, 2, 1], // law 4
+        [10, 1, 2], // law 5
+        [8, 0, 1],
+        [10, 6, 1], // law 6
+        [9, 0, 1],
+        [10, 8, 1], // law 7
+        [8, 1, 1],  // laws 8 and 9
+    ];
+    let file = one(&[], &nodes);
+    let mut out = [0; LONGEST];
+    let mut fits = |law| {
+        (0..nodes.len()).any(|node| {
+            let reply = hoidrul::rewrite(&file, law, node, &mut out);
+            assert!(reply.is_ok() || reply.map_err(Refusal::number) == Err(11));
+            reply.is_ok()
+        })
+    };
+    for law in 0..=MOST_LAWS + 3 {
+        assert_eq!(fits(law), (1..=MOST_LAWS).contains(&law), "{law}");
+    }
+    assert!(!fits(usize::MAX));
+}
