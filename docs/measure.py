@@ -98,6 +98,13 @@ def deepest():
     fill("deepest", markdown(["n", "Rounds a level", "One kind: levels", "Time", "Alternating: levels", "Time"], rows))
 
 
+def processor():
+    """The processor's name, as the system has it."""
+    with open("/proc/cpuinfo", encoding="utf-8") as lines:
+        names = [line.partition(":")[2].strip() for line in lines if line.startswith("model name")]
+    return names[0] if names else "unnamed processor"
+
+
 def measure():
     root = HERE.parent
     before = os.getloadavg()[0]
@@ -106,7 +113,8 @@ def measure():
     for what, name in [("ratios", "ratios.tsv"), ("groups", "groups.tsv"), ("growth", "performance.tsv")]:
         subprocess.run(["cargo", "run", *CARGO, "--", what, f"docs/{name}"], cwd=root, check=True)
     after = os.getloadavg()[0]
-    fill("machine", [f"{os.cpu_count()} cores; load average {before:.1f} before the run, and {after:.1f} after it with the run's own 1."])
+    load = f"load average {before:.1f} before the run, and {after:.1f} after it with the run's own 1."
+    fill("machine", [f"{processor()}, {os.cpu_count()} cores;", load])
 
 
 if __name__ == "__main__":
