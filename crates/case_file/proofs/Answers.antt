@@ -1,18 +1,13 @@
--- What a caller learns of vetting's answer: the counts are those of an accepted case and small, and so is a refusal's place.
+-- What a caller learns of vetting's answer: the counts are those of an accepted case, and a refusal is the one that was found; numbers are small.
 -- By cases on what the rows found: nothing, and the reply is an answer, or a refusal, which is the reply.
-use Prim.Native.Nat.{ℕ, _^_, _≤_, _<_}
+use Prim.Native.Nat.{ℕ, _≤_}
 use mathlib.Core.List.{List}
-use mathlib.Core.Path.{_≡_, refl, sym, ap, subst, _∙_}
+use mathlib.Core.Path.{_≡_, refl, sym, ap, _∙_}
 use native.Mathlib.Omega.{arith}
-use lib.Dec.{ltb}
-use Rattle.case_model.specs.Bytes.{byteAt}
 use Rattle.case_model.specs.Case.{read}
-use Rattle.case_model.specs.Rows.{Found, sound, refused, _orElse_, row8, refusals}
-use Rattle.case_model.specs.Limits.{mostStates, mostNodes, sections, standard}
-use Rattle.case_model.specs.Replies.{Counts, counts, replied, answers, refuses, accepting, vetting}
-use Rattle.case_model.proofs.Sections.{left-sound}
-use Rattle.case_model.proofs.Valid.{accepted-valid}
-use Rattle.case_model.proofs.Places.{Placed, somewhere, later, refusals-placed}
+use Rattle.case_model.specs.Rows.{Found, sound, refused, refusals}
+use Rattle.case_model.specs.Limits.{standard}
+use Rattle.case_model.specs.Replies.{counts, replied, answers, refuses, accepting}
 use Rattle.case_file.specs.EnumNumbers.{number, vettedReply, countsOf}
 use Rattle.case_file.specs.declared.reason.Reason.{Reason}
 use Rattle.case_file.specs.declared.reason.Reason.the-variants as reason

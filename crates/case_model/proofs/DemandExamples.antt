@@ -2,7 +2,7 @@
 -- By computation: a slip in one of these definitions makes an instance false.
 use Prim.Native.Nat.{ℕ, zero, suc, _<_}
 use mathlib.Core.Bool.{true}
-use mathlib.Core.List.{List, [], _∷_}
+use mathlib.Core.List.{[], _∷_}
 use mathlib.Core.Path.{_≡_, refl, ap}
 use native.Mathlib.Omega.{arith}
 use lib.Dec.{T}
@@ -23,7 +23,7 @@ use Rattle.case_model.specs.Decision.{FirstStill}
 use Rattle.case_model.specs.Merging.{moved, movedSteps, selected, inOrder, isIn, merge, merging}
 use Rattle.case_model.specs.Rewriting.{change, rewrite, rewriting}
 use Rattle.case_model.specs.Book.{Edit, begun, book}
-use Rattle.case_model.specs.Run.{Call, Promised, handed}
+use Rattle.case_model.specs.Run.{Promised, handed}
 use Rattle.case_model.proofs.Examples.{caseOf, F}
 
 -- ---- rounds

@@ -1,6 +1,6 @@
 -- What judging needs of a case, worked out once and kept in one table of words. The contracts of the internal crates cite these; those of the entries do not.
 -- The state table and the nodes are read off the plan, so that the crates which fill tables speak of a plan alone.
-use Prim.Native.Nat.{ℕ, suc, _+_, _*_, _^_, _≤_, _<_}
+use Prim.Native.Nat.{ℕ, _+_, _*_, _^_, _≤_, _<_}
 use mathlib.Core.Bool.{Bool, true, cond}
 use mathlib.Core.List.{List}
 use mathlib.Core.Logic.{_↔_}

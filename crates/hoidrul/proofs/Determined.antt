@@ -3,7 +3,7 @@
 use Prim.Native.Nat.{ℕ, _^_, _<_}
 use mathlib.Core.Path.{_≡_, ap, ap₂}
 use native.Mathlib.Omega.{arith}
-use Rattle.case_model.specs.Replies.{Reply, answers, refuses}
+use Rattle.case_model.specs.Replies.{answers, refuses}
 use Rattle.hoidrul.specs.Packing.{countsWord, spanWord, verdictWord, itself, Few, Brief, Short, Determined}
 
 -- for any word that does so with the answers

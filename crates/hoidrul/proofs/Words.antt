@@ -21,11 +21,11 @@ use Rattle.case_model.specs.Case.{Case, read, write, table, nodeAt, rule}
 use Rattle.case_model.specs.Rows.{Found, sound, refused, _orElse_, unless, row8, refusals}
 use Rattle.case_model.specs.Limits.{sections, mostNodes, standard}
 use Rattle.case_model.specs.Replies.{answers, replied, counts, vetting, row13, counted}
-use Rattle.case_model.specs.Judging.{verdict, row9, judging}
+use Rattle.case_model.specs.Judging.{verdict, judging}
 use Rattle.case_model.specs.Looking.{looked}
 use Rattle.case_model.specs.Merging.{lowestAlike, classing, merge, row10, merging}
 use Rattle.case_model.specs.Rewriting.{Change, change, isThere, rewrite, rewriting}
-use Rattle.case_model.specs.Book.{Edit, merges, rewrites, begun, reply, book}
+use Rattle.case_model.specs.Book.{Edit, merges, rewrites, reply, book}
 use Rattle.case_model.proofs.Lists.{length-listOf}
 use Rattle.case_model.proofs.Sections.{within-longest, left-sound, right-sound, unless-sound}
 use Rattle.case_model.proofs.Valid.{accepted-pairs, accepted-valid}

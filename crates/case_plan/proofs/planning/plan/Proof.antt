@@ -1,5 +1,5 @@
 -- `case_plan::planning::plan` meets its contract: a shift by at most 16 loses nothing, and each part is what it says.
-use Prim.Native.Nat.{_+_, _*_, _%_, _^_, _≤_}
+use Prim.Native.Nat.{_*_, _%_, _^_, _≤_}
 use mathlib.Core.Path.{refl, _∙_}
 use native.Mathlib.Nat.{mul-le-mul-right}
 use native.Mathlib.Omega.{arith}
