@@ -1,8 +1,8 @@
--- What classes replies, by the rows found and by the room; and the answer from the rows of alike states.
--- By the rows of the table of refusals, in rising number.
+-- What classes replies of an accepted case, by the room; and the answer from the rows of alike states.
+-- Row 13 alone is left, and says whether all bytes are written or none.
 use mathlib.Core.Bool.{Bool, cond}
 use mathlib.Core.List.{List, _++_}
-use mathlib.Core.Path.{_≡_, refl}
+use mathlib.Core.Path.{_≡_, refl, sym, ap, _∙_}
 use Prim.Native.Nat.{ℕ, zero, suc, _+_, _≤_, _<_}
 use native.Mathlib.Decide.{decLe}
 use native.Mathlib.Omega.{arith}
@@ -15,11 +15,12 @@ use Rattle.case_model.specs.Limits.{standard}
 use Rattle.case_model.specs.Areas.{Laid}
 use Rattle.case_model.specs.Bytes.{listOf}
 use Rattle.case_model.specs.Case.{Case, read}
-use Rattle.case_model.specs.Rows.{sound, refused, refusals}
-use Rattle.case_model.specs.Replies.{answers, refuses, counted, written}
-use Rattle.case_model.specs.Merging.{lowestAlike, classing}
+use Rattle.case_model.specs.Rows.{unless}
+use Rattle.case_model.specs.Replies.{Counts, Accepted, answers, refuses, replied, row13, counted, written}
+use Rattle.case_model.specs.Merging.{lowestAlike, classes, classing}
 use Rattle.case_model.proofs.Lists.{length-listOf, listOf-ext}
 use Rattle.case_model.proofs.Laying.{laid-whole}
+use Rattle.case_model.proofs.Replying.{own-rows}
 use Rattle.bisimilarity.specs.Graphs.{tableOf, Drawn}
 use Rattle.bisimilarity.specs.Relations.{related, Rows}
 use Rattle.bisimilarity.specs.declared.graph.Graph.{Graph}
@@ -35,7 +36,7 @@ first-ext p q i (suc k) h = rw (h i (omega arith) (omega arith), first-ext p q (
 -- ---- the rows
 -- the lowest of each row
 lowest-alike : {c : Case} {g : Graph} {rows : List ℕ} → Drawn c g → Rows (g .states) rows (bisimilar (tableOf g))
-    → listOf (length (c .labels)) (λ s. first (related rows s) 0 s) ≡ listOf (length (c .labels)) (lowestAlike c)
+    → listOf (length (c .labels)) (λ s. first (related rows s) 0 s) ≡ classes c
 unfolding lowestAlike
 lowest-alike {c} d r = listOf-ext (length (c .labels)) _ _ (λ s i. first-ext _ _ 0 s (λ t _ j. rows-alike d r s t i (omega arith)))
 
@@ -53,14 +54,10 @@ served-none n room e l = elim (decLe n room) [
 ]
 
 -- ---- what classes replies
-pub classing-refused : (f : List ℕ) (room k p : ℕ) → refusals standard f ≡ refused k p → classing f room ≡ refuses k p
-unfolding classing
-classing-refused f room k p e = rw e
-
 -- an accepted case, of whose classes so many bytes are written
-module _ (f out : List ℕ) (ok : refusals standard f ≡ sound) {g : Graph} {rows : List ℕ} (d : Drawn (read f) g)
+module _ (f out : List ℕ) {k : Counts} (ok : Accepted standard f k) {g : Graph} {rows : List ℕ} (d : Drawn (read f) g)
     (r : Rows (g .states) rows (bisimilar (tableOf g)))
-    {n count : ℕ} (states : n ≡ length (read f .labels)) (served : count ≡ cond (leb n (length out)) n 0)
+    {n count : ℕ} (states : n ≡ k .states) (served : count ≡ cond (leb n (length out)) n 0)
     {v : List ℕ} (w : Laid out v 0 count (listOf count (λ s. first (related rows s) 0 s))) where
   -- the area after the call
   front : v ≡ listOf count (λ s. first (related rows s) 0 s) ++ drop count out
@@ -68,20 +65,26 @@ module _ (f out : List ℕ) (ok : refusals standard f ≡ sound) {g : Graph} {ro
       let h = length-listOf count (λ s. first (related rows s) 0 s) in
       rw h at (laid-whole w (served-within n (length out) served .1))
 
+  long : length (classes (read f)) ≡ n
+  long = length-listOf (length (read f .labels)) (lowestAlike (read f)) ∙ sym (states ∙ ok .states)
+
+  -- row 13 alone is left
+  by-room : classing f (length out) ≡ replied (unless (leb n (length out)) 13 0) (classes (read f))
+  unfolding classing
+  by-room =
+      own-rows standard f (λ c. row13 (classes c) (length out)) classes (ok .rows)
+      ∙ ap (λ m. replied (unless (leb m (length out)) 13 0) (classes (read f))) long
+
   pub classing-short : count < n → (refuses 13 0 ≡ counted (classing f (length out))) × (v ≡ written (classing f (length out)) out)
-  unfolding classing listOf
+  unfolding listOf
   classing-short h =
       let (l, z) = served-none n (length out) served h in
-      let e : classing f (length out) ≡ refuses 13 0 =
-      rw (ok, length-listOf (length (read f .labels)) (lowestAlike (read f)), lt-leb (length (read f .labels)) (length out) (omega arith)) in
+      let e : classing f (length out) ≡ refuses 13 0 = by-room ∙ rw (lt-leb n (length out) l) in
       (rw e, rw e (rw z at front))
 
   pub classing-whole : n ≤ count → (answers n ≡ counted (classing f (length out))) × (v ≡ written (classing f (length out)) out)
-  unfolding classing
   classing-whole h =
       let (few, fits) = served-within n (length out) served in
-      let q : count ≡ length (read f .labels) = omega arith in
-      let m = length-listOf (length (read f .labels)) (lowestAlike (read f)) in
-      let e : classing f (length out) ≡ answers (listOf (length (read f .labels)) (lowestAlike (read f))) =
-      rw (ok, m, le-leb (length (read f .labels)) (length out) (omega arith)) in
-      (rw (e, m, states), rw (e, m, ← lowest-alike d r) (rw q at front))
+      let q : count ≡ length (read f .labels) = omega (arith, states, ok .states) in
+      let e : classing f (length out) ≡ answers (classes (read f)) = by-room ∙ rw (le-leb n (length out) (omega arith)) in
+      (rw (e, long), rw (e, ← lowest-alike d r, length-listOf (length (read f .labels)) _) (rw q at front))

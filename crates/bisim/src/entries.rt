@@ -7,21 +7,20 @@ ghost use lib.ListN.{length};
 ghost use Rattle.flc.specs.Sets.{first};
 ghost use Rattle.case_model.specs.Areas.{Laid};
 ghost use Rattle.case_model.specs.Bytes.{listOf};
-ghost use Rattle.case_model.specs.Rows.{sound, refusals};
 ghost use Rattle.case_model.specs.Limits.{mostStates, standard};
 ghost use Rattle.case_model.specs.Merging.{classing};
-ghost use Rattle.case_model.specs.Replies.{counted, written};
+ghost use Rattle.case_model.specs.Replies.{Accepted, counted, written};
 ghost use Rattle.bisimilarity.specs.Relations.{related};
-ghost use Rattle.case_file.specs.EnumNumbers.{writtenReply};
+ghost use Rattle.case_file.specs.EnumNumbers.{caseCounts, writtenReply};
 use bisimilarity::alike_rows;
 use bisimilarity::draw;
 use bisimilarity::member;
 use case_file::Case;
+use case_file::Checked;
 use case_file::Reason;
-use case_file::Vetted;
 use case_file::Written;
 use case_file::refused;
-use case_reader::state_count;
+use case_reader::step_rows;
 
 // The lowest state that row s has, s itself if none is lower.
 fn lowest(rows: [u16; 16], s: usize) -> usize
@@ -56,14 +55,15 @@ fn served(n: usize, room: usize) -> usize
 }
 
 // The classes of an accepted case.
-fn write_classes(file: &[u8], out: &mut [u8]) -> Written
-    requires { ⌜ refusals standard (now file) ≡ sound ⌝ }
+fn write_classes(file: &[u8], case: Case, out: &mut [u8]) -> Written
+    requires { ⌜ Accepted standard (now file) (caseCounts case) ⌝ }
     ensures { λ r. ⌜ writtenReply r ≡ counted (classing (now (file .entry)) (length (now (out .entry)))) ⌝ }
     ensures { λ r. ⌜ now (out .exit) ≡ written (classing (now (file .entry)) (length (now (out .entry)))) (now (out .entry)) ⌝ }
 {
-    let n = state_count(file);
+    let n = case.states();
     let count = served(n, out.len());
-    write(alike_rows(draw(file)), count, out);
+    let graph = draw(file, case, step_rows(file, false));
+    write(alike_rows(graph), count, out);
     if count < n {
         return refused(Reason::Room);
     }
@@ -75,9 +75,9 @@ pub fn classes(file: &[u8], out: &mut [u8]) -> Written
     ensures { λ r. ⌜ writtenReply r ≡ counted (classing (now (file .entry)) (length (now (out .entry)))) ⌝ }
     ensures { λ r. ⌜ now (out .exit) ≡ written (classing (now (file .entry)) (length (now (out .entry)))) (now (out .entry)) ⌝ }
 {
-    let vetted = Case::new(file);
-    let Vetted::Refused(refusal) = vetted else {
-        return write_classes(file, out);
+    let checked = Case::new(file);
+    let Checked::Case(case) = checked else {
+        return Written::Refused(checked.refusal());
     };
-    Written::Refused(refusal)
+    write_classes(file, case, out)
 }

@@ -5,12 +5,13 @@ ghost use lib.Bits.{bitAnd};
 ghost use lib.ListN.{getD};
 ghost use Rattle.case_model.specs.Case.{read};
 ghost use Rattle.case_model.specs.Limits.{mostStates, standard};
-ghost use Rattle.case_model.specs.Valid.{ValidTable, Valid};
+ghost use Rattle.case_model.specs.Replies.{Accepted};
+ghost use Rattle.case_model.specs.Valid.{ValidTable};
+ghost use Rattle.case_reader.specs.StepRows.{StepRows};
+ghost use Rattle.case_file.specs.EnumNumbers.{caseCounts};
 ghost use Rattle.bisimilarity.specs.Graphs.{Drawn};
 use case_file::Case;
 use case_reader::label;
-use case_reader::state_count;
-use case_reader::step_rows;
 use vocabulary::looked;
 
 pub struct Graph {
@@ -35,18 +36,18 @@ fn labels(file: &[u8], props: usize) -> [usize; 16]
     table
 }
 
-pub fn draw(file: &[u8]) -> Graph
-    requires { ⌜ Valid standard (read (now file)) ⌝ }
+// The graph of an accepted case, whose steps have been read into rows.
+pub fn draw(file: &[u8], case: Case, steps: [u16; 128]) -> Graph
+    requires { ⌜ Accepted standard (now file) (caseCounts case) × StepRows (read (now file) .steps) steps ⌝ }
     ensures { λ r. ⌜ Drawn (read (now (file .entry))) r ⌝ }
 {
-    let states = state_count(file);
+    let states = case.states();
     let seen = looked(file);
     let labels = labels(file, seen.props);
-    let successors = step_rows(file, false);
     Graph {
         states,
         labels,
         acts: seen.acts,
-        successors,
+        successors: steps,
     }
 }

@@ -1,44 +1,34 @@
--- What a caller learns of vetting's answer: the counts are those of an accepted case, and a refusal is the one that was found; numbers are small.
--- By cases on what the rows found: nothing, and the reply is an answer, or a refusal, which is the reply.
-use Prim.Native.Nat.{ℕ, _≤_}
+-- What an entry learns of the answer that it takes apart: an accepted file with its counts, or the refusal that it replies. And numbers of refusals fit.
+use Prim.Native.Nat.{ℕ, _^_, _<_}
 use mathlib.Core.List.{List}
-use mathlib.Core.Path.{_≡_, refl, sym, ap, _∙_}
+use mathlib.Core.Path.{_≡_, sym, ap, _∙_}
 use native.Mathlib.Omega.{arith}
-use Rattle.case_model.specs.Case.{read}
-use Rattle.case_model.specs.Rows.{Found, sound, refused, refusals}
+use Rattle.case_model.specs.Case as model
+use Rattle.case_model.specs.Rows.{Found}
 use Rattle.case_model.specs.Limits.{standard}
-use Rattle.case_model.specs.Replies.{counts, replied, answers, refuses, accepting}
-use Rattle.case_file.specs.EnumNumbers.{number, vettedReply, countsOf}
+use Rattle.case_model.specs.Replies.{refuses, replying, accepting, Accepted}
+use Rattle.case_model.proofs.Replying.{accepts, refused-too}
+use Rattle.case_file.specs.EnumNumbers.{number, caseCounts, checkedReply}
+use Rattle.case_file.specs.declared.case.Case.{Case}
+use Rattle.case_file.specs.declared.case.Checked.{Checked}
+use Rattle.case_file.specs.declared.case.Checked.the-variants as checked
 use Rattle.case_file.specs.declared.reason.Reason.{Reason}
 use Rattle.case_file.specs.declared.reason.Reason.the-variants as reason
 use Rattle.case_file.specs.declared.reason.Refusal.{Refusal}
-use Rattle.case_file.specs.declared.vetting.Case.{Case}
-use Rattle.case_file.specs.declared.vetting.Vetted.{Vetted}
-use Rattle.case_file.specs.declared.vetting.Vetted.the-variants as vetted
 
--- an answer says that nothing was found, and is what was to be answered
-pub replied-sound : {A : Type 0} (r : Found) (a b : A) → replied r a ≡ answers b → (r ≡ sound) × (a ≡ b)
-replied-sound sound a b e = (refl, cc)
-replied-sound (refused k p) a b e = (cc, cc)
+module _ (f : List ℕ) {v : Checked} (e : checkedReply v ≡ accepting standard f) where
+  -- a case has the counts of an accepted file
+  pub handed-on : (x : Case) → v ≡ checked.Case x → Accepted standard f (caseCounts x)
+  handed-on x q = accepts standard f (sym e ∙ ap checkedReply q)
 
--- a refusal says which was found
-pub replied-refused : {A : Type 0} (r : Found) (a : A) (k p : ℕ) → replied r a ≡ refuses k p → r ≡ refused k p
-replied-refused sound a k p e = cc
-replied-refused (refused j q) a k p e = cc
+  -- a refusal is the reply, whatever the entry's own rows and answer are
+  pub turned-back : {A : Type 0} (own : model.Case → Found) (answer : model.Case → A) (x : Refusal) → v ≡ checked.Refused x
+      → {r : Refusal} → r ≡ x → replying standard f own answer ≡ refuses (number (r .reason)) (r .place)
+  turned-back own answer x q told =
+      refused-too standard f own answer (sym e ∙ ap checkedReply q) ∙ ap (λ (r : Refusal). refuses (number (r .reason)) (r .place)) (sym told)
 
--- a case says that no refusal was found, and has the counts of the file
-pub accepts : (f : List ℕ) {v : Vetted} (x : Case) → v ≡ vetted.Case x → vettedReply v ≡ accepting standard f
-    → (refusals standard f ≡ sound) × (counts (read f) ≡ countsOf x)
-unfolding accepting
-accepts f x q e = replied-sound (refusals standard f) (counts (read f)) (countsOf x) (sym e ∙ ap vettedReply q)
-
--- a refusal is the one that was found
-pub turned-back : (f : List ℕ) {v : Vetted} (x : Refusal) → v ≡ vetted.Refused x → vettedReply v ≡ accepting standard f
-    → refusals standard f ≡ refused (number (x .reason)) (x .place)
-unfolding accepting
-turned-back f x q e = replied-refused (refusals standard f) (counts (read f)) _ _ (sym e ∙ ap vettedReply q)
-
-pub number-small : (r : Reason) → number r ≤ 13
+-- a number has room between bit 32 and bit 63 of a reply's word
+pub number-small : (r : Reason) → number r < 2 ^ 31
 number-small reason.Pairs = omega arith
 number-small reason.Labels = omega arith
 number-small reason.Steps = omega arith

@@ -1,3 +1,4 @@
 pub mod Stages
 pub mod Answers
+pub mod Shifts
 pub mod Opening

@@ -8,16 +8,15 @@ use borrow.Author.Tests.{ltb-true}
 use lib.ListN.{length, take, drop}
 use Rattle.case_model.specs.Bytes.{byteAt, offset, size, section}
 use Rattle.case_model.specs.Limits.{sections, standard}
-use Rattle.case_model.specs.Case.{read}
-use Rattle.case_model.specs.Rows.{_orElse_, row8, refusals}
+use Rattle.case_model.specs.Rows.{row8}
 use Rattle.case_model.specs.Replies.{counts, vetting, opening, openedAt}
 use Rattle.case_model.proofs.Lists.{length-listOf}
-use Rattle.case_model.proofs.Sections.{within, section-part, left-sound, right-sound, unless-sound}
+use Rattle.case_model.proofs.Sections.{within, section-part, unless-sound}
+use Rattle.case_model.proofs.Replying.{answered}
 use Rattle.case_model.proofs.Valid.{accepted-pairs}
-use Rattle.case_file.specs.EnumNumbers.{vettedReply, countsOf}
-use Rattle.case_file.proofs.Answers.{replied-sound}
+use Rattle.case_file.specs.EnumNumbers.{vettedReply}
 use Rattle.case_file.specs.declared.reason.Refusal.{Refusal}
-use Rattle.case_file.specs.declared.vetting.Case.{Case}
+use Rattle.case_file.specs.declared.vetting.Counts.{Counts}
 use Rattle.case_file.specs.declared.vetting.Vetted.{Vetted}
 use Rattle.case_file.specs.declared.vetting.Vetted.the-variants as vetted
 
@@ -28,12 +27,12 @@ pub record Opens (f : List ℕ) (k : ℕ) : Type 0 where
   pub long : length (opening f k) ≡ size f k
   pub at : openedAt f k ≡ offset f k
 
-pub opens : (f : List ℕ) (k : ℕ) {v : Vetted} (x : Case) → v ≡ vetted.Case x → vettedReply v ≡ vetting f k → Opens f k
+pub opens : (f : List ℕ) (k : ℕ) {v : Vetted} (x : Counts) → v ≡ vetted.Counts x → vettedReply v ≡ vetting f k → Opens f k
 unfolding vetting opening openedAt
 opens f k {v} x q e =
-    let s = replied-sound (refusals standard f orElse row8 k sections) (counts (read f)) (countsOf x) (sym e ∙ ap vettedReply q) .0 in
-    let h : k < sections = ltb-true _ _ (unless-sound _ 8 0 (right-sound (refusals standard f) (row8 k sections) s)) in
-    let p = accepted-pairs standard f (left-sound (refusals standard f) (row8 k sections) s) in
+    let (ok, own, _) = answered standard f (λ c. row8 k sections) counts (sym e ∙ ap vettedReply q) in
+    let h : k < sections = ltb-true _ _ (unless-sound _ 8 0 own) in
+    let p = accepted-pairs standard f ok in
     record {
       number = h;
       fits = within standard f p k h;

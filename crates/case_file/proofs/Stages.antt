@@ -3,12 +3,12 @@
 use Prim.Native.Nat.{ℕ}
 use mathlib.Core.Bool.{true}
 use mathlib.Core.List.{List}
-use mathlib.Core.Path.{_≡_, sym, ap, ap₂, _∙_}
+use mathlib.Core.Path.{_≡_, refl, sym, ap, ap₂, _∙_}
 use borrow.Author.Tests.{leb-true, ltb-true}
 use Rattle.case_model.specs.Limits.{Limits}
 use Rattle.case_model.specs.Case.{read}
-use Rattle.case_model.specs.Rows.{Found, _orElse_, unless, ruleHolds, row1, row2, row3, row4, row5, row6}
-use Rattle.case_model.specs.Replies.{replied, counts}
+use Rattle.case_model.specs.Rows.{Found, sound, refused, _orElse_, unless, ruleHolds, row1, row2, row3, row4, row5, row6, refusals}
+use Rattle.case_model.specs.Replies.{replied, counts, replying, accepting}
 use Rattle.case_model.proofs.Sections.{orElse-assoc, left-sound, right-sound, unless-sound}
 use Rattle.case_model.proofs.Tests.{and-l, and-r}
 use Rattle.case_file.specs.EnumNumbers.{found, countsOf}
@@ -24,10 +24,18 @@ pub went-twice : {a b c : Vetting} {x y : Found} → Went a b x → Went b c y �
 went-twice {a} {x = x} {y} p q =
     record { finds = q .finds ∙ ap (λ z. z orElse y) (p .finds) ∙ orElse-assoc (found (a .finding)) x y; has = q .has ∙ p .has }
 
--- the reply at the end of a chain
+-- the reply at the end of a chain; and where nothing is asked after rows 1 to 7
 pub answered : {f : List ℕ} {s : Vetting} {x : Found} → Stage f s x
-    → replied (found (s .finding)) (countsOf (s .case)) ≡ replied x (counts (read f))
+    → replied (found (s .finding)) (countsOf (s .counts)) ≡ replied x (counts (read f))
 answered p = ap₂ replied (p .finds) (p .has)
+
+pub accepting-found : (most : Limits) (f : List ℕ) → replied (refusals most f) (counts (read f)) ≡ accepting most f
+unfolding accepting replying
+accepting-found most f = go (refusals most f)
+  where
+    go : (r : Found) → replied r (counts (read f)) ≡ replied (r orElse sound) (counts (read f))
+    go sound = refl
+    go (refused k p) = refl
 
 -- where the rule's tests were the last and nothing was found, they passed
 pub rule-tested : (f : List ℕ) {s r : Vetting} → Went s r (unless (ruleHolds f (read f)) 4 0) → RuleTested r f

@@ -4,7 +4,10 @@ use Rattle.case_model.specs.Rows.{Found, sound, refused}
 use Rattle.case_model.specs.Replies.{Reply, answers, refuses, Counts}
 use Rattle.case_file.specs.declared.reason.Reason.{Reason}
 use Rattle.case_file.specs.declared.reason.Reason.the-variants as reason
-use Rattle.case_file.specs.declared.vetting.Case.{Case}
+use Rattle.case_file.specs.declared.case.Case.{Case}
+use Rattle.case_file.specs.declared.case.Checked.{Checked}
+use Rattle.case_file.specs.declared.case.Checked.the-variants as checked
+use Rattle.case_file.specs.declared.vetting.Counts as code
 use Rattle.case_file.specs.declared.vetting.Vetted.{Vetted}
 use Rattle.case_file.specs.declared.vetting.Vetted.the-variants as vetted
 use Rattle.case_file.specs.declared.vetting.Finding.{Finding}
@@ -32,13 +35,21 @@ abbrev pub found : Finding → Found
 found finding.Sound = sound
 found (finding.Refused r) = refused (number (r .reason)) (r .place)
 
-abbrev pub countsOf : Case → Counts
-countsOf c = record { states = c .states; nodes = c .nodes }
+-- clause 1.12: n and m, as vetting has them and as a case does
+abbrev pub countsOf : code.Counts → Counts
+countsOf n = record { states = n .states; nodes = n .nodes }
+
+abbrev pub caseCounts : Case → Counts
+caseCounts c = countsOf (c .counts)
 
 -- clause 7.1: the reply that an answer of the code is
 abbrev pub vettedReply : Vetted → Reply Counts
-vettedReply (vetted.Case c) = answers (countsOf c)
+vettedReply (vetted.Counts n) = answers (countsOf n)
 vettedReply (vetted.Refused r) = refuses (number (r .reason)) (r .place)
+
+abbrev pub checkedReply : Checked → Reply Counts
+checkedReply (checked.Case c) = answers (caseCounts c)
+checkedReply (checked.Refused r) = refuses (number (r .reason)) (r .place)
 
 -- clause 7.6: how many bytes were written
 abbrev pub writtenReply : Written → Reply ℕ

@@ -14,12 +14,12 @@ use Rattle.case_file.specs.declared.vetting.Vetting.{Vetting}
 -- a state of the vetting of f, with what it has found
 pub record Stage (f : List ℕ) (r : Vetting) (what : Found) : Type 0 where
   pub finds : found (r .finding) ≡ what
-  pub has : countsOf (r .case) ≡ counts (model.read f)
+  pub has : countsOf (r .counts) ≡ counts (model.read f)
 
 -- a test that finds `row`: what was found before stands, and the counts stay
 pub record Went (s r : Vetting) (row : Found) : Type 0 where
   pub finds : found (r .finding) ≡ found (s .finding) orElse row
-  pub has : countsOf (r .case) ≡ countsOf (s .case)
+  pub has : countsOf (r .counts) ≡ countsOf (s .counts)
 
 -- clause 8.4: where nothing was found, the length of the rule and the root have been tested
 abbrev pub RuleTested : Vetting → List ℕ → Type 0

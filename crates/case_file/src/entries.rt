@@ -2,17 +2,22 @@
 ghost use mathlib.Core.Path.{_≡_};
 ghost use Rattle.case_model.specs.Replies.{vetting, Opened};
 ghost use Rattle.case_file.specs.EnumNumbers.{vettedReply};
-use crate::vetting::Case;
+use crate::case::Case;
 use crate::vetting::Vetted;
 use crate::vetting::Vetting;
 use case_reader::section_offset;
 use case_reader::section_size;
+use case_tests::Limits;
 
 // The counts of states and nodes, or the first refusal.
 pub fn vet(file: &[u8], section: usize) -> Vetted
     ensures { λ r. ⌜ vettedReply r ≡ vetting (now (file .entry)) section ⌝ }
 {
-    Vetting::rows(file, Case::limits()).section(section).reply()
+    let limits = Limits {
+        longest: Case::LONGEST,
+        states: Case::STATES,
+    };
+    Vetting::rows(file, limits).section(section).reply()
 }
 
 // A section as that part of the file, or an empty part where vetting refuses.
@@ -20,7 +25,7 @@ pub fn open(file: &[u8], section: usize) -> &[u8]
     ensures { λ r. ⌜ Opened (file .entry) r section ⌝ }
 {
     let vetted = vet(file, section);
-    let Vetted::Case(_) = vetted else {
+    let Vetted::Counts(_) = vetted else {
         return &file[..0];
     };
     let start = section_offset(file, section);

@@ -2,14 +2,14 @@
 ghost use mathlib.Core.Path.{_≡_};
 ghost use Rattle.case_model.specs.Case.{read};
 ghost use Rattle.case_model.specs.Rows.{_orElse_, unless, row1, row2, row3, row5, row6, row7, row8, refusals, ruleHolds, sound, startsRise};
-ghost use Rattle.case_model.specs.Limits.{sections, standard};
+ghost use Rattle.case_model.specs.Limits.{sections};
 ghost use Rattle.case_model.specs.Replies.{accepting, replied};
 ghost use Rattle.case_file.specs.EnumNumbers.{number, vettedReply, found, countsOf};
 ghost use Rattle.case_tests.specs.RowTests.{limitsOf};
 ghost use Rattle.case_file.specs.VettingStages.{Stage, Went, RuleTested, MayClose};
 use crate::reason::Reason;
 use crate::reason::Refusal;
-use case_reader::Kind;
+use case_reader::SECTIONS;
 use case_reader::node_count;
 use case_reader::section_size;
 use case_reader::state_count;
@@ -23,63 +23,14 @@ use case_tests::root_closed;
 use case_tests::rule_holds;
 use case_tests::starts_rise;
 
-// An accepted case: how many states and nodes it has.
-pub struct Case {
-    states: usize,
-    nodes: usize,
-}
-
-impl Case {
-    // In bytes.
-    pub const LONGEST: usize = 6394;
-
-    pub const SECTIONS: usize = case_reader::SECTIONS;
-
-    // In bytes, between two sections.
-    pub const PADDING: usize = case_tests::PADDING;
-
-    pub const STATES: usize = 16;
-
-    pub const NODES: usize = case_tests::NODES;
-
-    pub const ACTIONS: usize = Kind::ACTIONS;
-
-    pub const PROPOSITIONS: usize = Kind::PROPOSITIONS;
-
-    pub const VARIABLES: usize = Kind::VARIABLES;
-
-    // The checked constructor: a case only of a file that none of refusals 1 to 7 meets.
-    pub fn new(file: &[u8]) -> Vetted
-        ensures { λ r. ⌜ vettedReply r ≡ accepting standard (now (file .entry)) ⌝ }
-    {
-        Vetting::rows(file, Case::limits()).reply()
-    }
-
-    // The limits as one value.
-    pub(crate) fn limits() -> Limits
-        ensures { λ r. ⌜ limitsOf r ≡ standard ⌝ }
-    {
-        Limits {
-            longest: Case::LONGEST,
-            states: Case::STATES,
-        }
-    }
-
-    pub fn states(self) -> usize
-        ensures { λ r. ⌜ r ≡ self .states ⌝ }
-    {
-        self.states
-    }
-
-    pub fn nodes(self) -> usize
-        ensures { λ r. ⌜ r ≡ self .nodes ⌝ }
-    {
-        self.nodes
-    }
+// How many states and nodes a file has.
+pub struct Counts {
+    pub states: usize,
+    pub nodes: usize,
 }
 
 pub enum Vetted {
-    Case(Case),
+    Counts(Counts),
     Refused(Refusal),
 }
 
@@ -90,8 +41,15 @@ pub(crate) enum Finding {
 
 // The counts of the file, and what the tests so far have found.
 pub(crate) struct Vetting {
-    case: Case,
+    counts: Counts,
     finding: Finding,
+}
+
+// Rows 1 to 7 within the limits of the caller's case type: how many bytes and how many states there can be.
+pub fn vet_within(file: &[u8], longest: usize, states: usize) -> Vetted
+    ensures { λ r. ⌜ vettedReply r ≡ accepting (record { longest = longest; states = states }) (now (file .entry)) ⌝ }
+{
+    Vetting::rows(file, Limits { longest, states }).reply()
 }
 
 // A refusal, unless the test passed.
@@ -119,12 +77,12 @@ impl Vetting {
     fn begin(file: &[u8]) -> Vetting
         ensures { λ r. ⌜ Stage (now (file .entry)) r sound ⌝ }
     {
-        let case = Case {
+        let counts = Counts {
             states: state_count(file),
             nodes: node_count(file),
         };
         Vetting {
-            case,
+            counts,
             finding: Finding::Sound,
         }
     }
@@ -145,12 +103,12 @@ impl Vetting {
     }
 
     pub(crate) fn reply(self) -> Vetted
-        ensures { λ r. ⌜ vettedReply r ≡ replied (found (self .finding)) (countsOf (self .case)) ⌝ }
+        ensures { λ r. ⌜ vettedReply r ≡ replied (found (self .finding)) (countsOf (self .counts)) ⌝ }
     {
-        let case = self.case;
+        let counts = self.counts;
         let finding = self.finding;
         match finding {
-            Finding::Sound => Vetted::Case(case),
+            Finding::Sound => Vetted::Counts(counts),
             Finding::Refused(refusal) => Vetted::Refused(refusal),
         }
     }
@@ -159,11 +117,11 @@ impl Vetting {
     fn unless(self, holds: bool, reason: Reason, place: usize) -> Vetting
         ensures { λ r. ⌜ Went self r (unless holds (number reason) place) ⌝ }
     {
-        let case = self.case;
+        let counts = self.counts;
         let before = self.finding;
         let now = tested(holds, reason, place);
         let finding = earlier(before, now);
-        Vetting { case, finding }
+        Vetting { counts, finding }
     }
 
     fn pairs(self, file: &[u8], limits: Limits) -> Vetting
@@ -247,6 +205,6 @@ impl Vetting {
     pub(crate) fn section(self, section: usize) -> Vetting
         ensures { λ r. ⌜ Went self r (row8 section sections) ⌝ }
     {
-        self.unless(section < Case::SECTIONS, Reason::Beyond, 0)
+        self.unless(section < SECTIONS, Reason::Beyond, 0)
     }
 }

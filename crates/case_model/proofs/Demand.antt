@@ -8,7 +8,7 @@ use mathlib.Core.Path.{_≡_, refl, sym, ap, _∙_, subst}
 use native.Mathlib.Decide.{decLt}
 use native.Mathlib.Omega.{arith}
 use borrow.Author.Tests.{ltb-true, leb-true, eqb-false, not-true}
-use lib.Dec.{T, eqb, leb}
+use lib.Dec.{T, eqb}
 use lib.ListN.{length}
 use Rattle.flc.specs.Sets.{forAll, has}
 use Rattle.flc.specs.Bisimulation.{alike}
@@ -16,19 +16,20 @@ use Rattle.flc.proofs.Masks.{setOf-lt}
 use Rattle.case_model.specs.Bytes.{byteAt}
 use Rattle.case_model.specs.Case.{Case, read, write, table}
 use Rattle.case_model.specs.Kinds.{Triple}
-use Rattle.case_model.specs.Rows.{Found, sound, refused, _orElse_, unless, row8, refusals}
+use Rattle.case_model.specs.Rows.{sound, _orElse_, unless, refusals}
 use Rattle.case_model.specs.Limits.{mostNodes, standard}
-use Rattle.case_model.specs.Replies.{Reply, answers, refuses, replied, row13}
+use Rattle.case_model.specs.Replies.{Reply, answers, refuses, row13}
 use Rattle.case_model.specs.Judging.{verdict, row9}
 use Rattle.case_model.specs.Looking.{looked}
-use Rattle.case_model.specs.Merging.{moved, merge, row10, merging}
-use Rattle.case_model.specs.Rewriting.{Change, nothing, swap, change, isThere, rewrite, rewriting}
+use Rattle.case_model.specs.Merging.{moved, merge, merging}
+use Rattle.case_model.specs.Rewriting.{Change, nothing, swap, change, isThere, rewrite, row12, rewriting}
 use Rattle.case_model.specs.Book.{Edit, merges, rewrites, Book, begun, reply, restood, entered, turn, book}
 use Rattle.case_model.specs.Run.{allStates, holds, everyStart, startsHold}
 use Rattle.case_model.proofs.Tests.{and-l, and-r}
 use Rattle.case_model.proofs.Sections.{left-sound, right-sound, unless-sound}
 use Rattle.case_model.proofs.Valid.{accepted-valid}
 use Rattle.case_model.specs.Valid.{Valid}
+use Rattle.case_model.proofs.Replying.{answered}
 use Rattle.case_model.proofs.Judged.{judging-answers}
 use Rattle.case_model.proofs.Codec.{read-write}
 use Rattle.case_model.proofs.Accepting.{valid-accepted}
@@ -60,11 +61,6 @@ written-stands f c g valid within same starts = record {
   starts = starts ∙ ap (λ (d : Case). everyStart d (satisfied d)) (sym (read-write c));
 }
 
--- an answer says that nothing was found, and what was made
-answered : {A : Type 0} (x : Found) (a v : A) → replied x a ≡ answers v → (x ≡ sound) × (a ≡ v)
-answered sound a v e = (refl, cc)
-answered (refused k p) a v e = (cc, cc)
-
 -- judging says so of an accepted file with work area enough
 judged : (f : List ℕ) (words s : ℕ) → refusals standard f ≡ sound → row9 (read f) words ≡ sound → holds f words s ≡ satisfied (read f) s
 unfolding holds satisfied
@@ -95,9 +91,7 @@ module _ (f : List ℕ) (ok : refusals standard f ≡ sound) where
   merging-stands : (s t room : ℕ) (new : List ℕ) → merging f s t room ≡ answers new → Stands f new (moved (min s t) (max s t))
   unfolding merging
   merging-stands s t room new e =
-      let n : ℕ = length (c .labels) in
-      let made : List ℕ = write (merge c (min s t) (max s t)) in
-      let (x, q) = answered (refusals standard f orElse row8 s n orElse row8 t n orElse row10 c s t orElse row13 made room) made new e in
+      let (_, x, q) = answered standard f _ _ e in
       let i : s < length (c .labels) = ltb-true _ _ (search rows depth 10) in
       let j : t < length (c .labels) = ltb-true _ _ (search rows depth 10) in
       let n : s ≡ t → ⊥ = eqb-false s t (not-true (eqb s t) (search rows depth 10)) in
@@ -132,23 +126,15 @@ module _ (f : List ℕ) (ok : refusals standard f ≡ sound) where
   -- what was answered was there
   rewriting-stands : (law j room : ℕ) (new : List ℕ) → rewriting f law j room ≡ answers new → Stands f new (λ s. s)
   unfolding rewriting
-  rewriting-stands law j room new = go (change (c .nodes) law j) refl
+  rewriting-stands law j room new e =
+      let (_, x, q) = answered standard f _ _ e in
+      subst (λ z. Stands f z (λ s. s)) q (go (change (c .nodes) law j) refl x)
     where
       go : (e : Change) → change (c .nodes) law j ≡ e
-          → replied (refusals standard f orElse unless (isThere e) 11 0 orElse unless (leb (length (rewrite c j e .nodes)) mostNodes) 12 0
-          orElse row13 (write (rewrite c j e)) room)
-          (write (rewrite c j e)) ≡ answers new
-          → Stands f new (λ s. s)
-      go nothing is e =
-          let r : refuses 11 0 ≡ answers new = rw ok at e in
-          let z : _≡_ {A = ℕ} 0 1 = cc in
-          absurd (omega arith)
-      go (swap l g) is e =
-          let d : Case = rewrite c j (swap l g) in
-          let last : Found = row13 (write d) room in
-          let (x, q) = answered (refusals standard f orElse sound orElse unless (leb (length (d .nodes)) mostNodes) 12 0 orElse last) (write d) new e in
-          let few : length (d .nodes) ≤ mostNodes = leb-true _ _ (search rows depth 10) in
-          subst (λ z. Stands f z (λ s. s)) q (rewrite-stands law j is few)
+          → unless (isThere e) 11 0 orElse row12 (rewrite c j e) orElse row13 (write (rewrite c j e)) room ≡ sound
+          → Stands f (write (rewrite c j e)) (λ s. s)
+      go nothing is x = let z : _≡_ {A = ℕ} 0 1 = cc in absurd (omega arith)
+      go (swap l g) is x = rewrite-stands law j is (leb-true _ _ (search rows depth 10))
 
   -- ---- an edit
   edit-stands : (e : Edit) (new : List ℕ) → reply f e ≡ answers new → Stands f new (restood e)

@@ -17,7 +17,7 @@ use Rattle.case_model.specs.Bytes.{listOf, byteAt, padding, chained, pai
 use Rattle.case_model.specs.Case.{write, listed, table, nodeAt, rule}
 use Rattle.case_model.specs.Kinds.{kinds, kindAt}
 use Rattle.case_model.specs.Rows.{lowest, rootClosed, refusals}
-use Rattle.case_model.specs.Replies.{answers, refuses}
+use Rattle.case_model.specs.Replies.{replying, answers, refuses}
 use Rattle.case_model.specs.Looking.{looked}
 use Rattle.case_model.specs.Decision.{FirstStill}
 use Rattle.case_model.specs.Merging.{moved, movedSteps, selected, inOrder, isIn, merge, merging}
@@ -48,7 +48,7 @@ hands = (refl, refl)
 
 -- a call that tells the right count, and leaves its output area as it was, does not keep its promise
 idle : Promised F (record { asked = Edit.rewrites 9 8; before = replicate 55 0; after = replicate 55 0; told = answers 55 }) → ⊥
-unfolding rewriting change rewrite write packed refusals pairsHold chained padding section
+unfolding rewriting replying change rewrite write packed refusals pairsHold chained padding section
     listOf lowest first forAll forSome both either rootClosed rule formulaAt lower nodeAt kindAt kinds free
 idle P =
     let same : _≡_ {A = ℕ} 0 16 = ap (λ l. byteAt l 0) (P .leaves) in
@@ -59,7 +59,7 @@ idle P =
 stands :
     let after = book (begun (caseOf (0 ∷ 0 ∷ 0 ∷ []) [] ((5, 0, 0) ∷ []) 0)) (Edit.merges 1 0 99 ∷ []) in
     (after .standing 0 ≡ 0) × (after .standing 1 ≡ 0) × (after .standing 2 ≡ 1)
-unfolding book merging merge moved movedSteps selected inOrder isIn
+unfolding book merging replying merge moved movedSteps selected inOrder isIn
     alike looked vocabulary reduct bisimilar matching met forSomeFun forAllFun implies has setOf table listed
     write packed refusals pairsHold chained padding section
     listOf lowest first forAll forSome both either rootClosed rule formulaAt lower nodeAt kindAt kinds free

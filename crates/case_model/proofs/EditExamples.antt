@@ -14,7 +14,7 @@ use Rattle.case_model.specs.Bytes.{listOf, padding, chained, pairsHold, 
 use Rattle.case_model.specs.Case.{Case, flat, write, listed, table, nodeAt, rule}
 use Rattle.case_model.specs.Kinds.{Triple, kinds, kindAt}
 use Rattle.case_model.specs.Rows.{lowest, rootClosed, refusals}
-use Rattle.case_model.specs.Replies.{answers, refuses}
+use Rattle.case_model.specs.Replies.{replying, answers, refuses}
 use Rattle.case_model.proofs.Examples.{startingAt, caseOf, nodes, F}
 use Rattle.case_model.specs.Looking.{looked}
 use Rattle.case_model.specs.Merging.{moved, movedSteps, selected, inOrder, isIn, merge, merging}
@@ -33,7 +33,7 @@ rewrites :
     × (rewriting (of (replicate 61 (5, 0, 0) ++ ((10, 0, 0) ∷ (10, 61, 0) ∷ (5, 0, 0) ∷ [])) 62) 4 62 6385 ≡ refuses 12 0)
     × (rewriting F 9 8 54 ≡ refuses 13 0)
     × (rewriting F 9 8 55 ≡ answers (caseOf (0 ∷ 0 ∷ []) ((0, 0, 1) ∷ (1, 1, 1) ∷ []) (set nodes 8 (8, 6, 7)) 9))
-unfolding rewriting change rewrite write packed refusals pairsHold chained padding section
+unfolding rewriting replying change rewrite write packed refusals pairsHold chained padding section
     listOf lowest first forAll forSome both either rootClosed rule formulaAt lower nodeAt kindAt kinds free
 rewrites = (refl, refl, refl, refl, refl)
 
@@ -68,7 +68,7 @@ rewrites-groups :
     × (renamed suc (13, 3, 0) ≡ (13, 3, 0))
     × (renamed suc (14, 3, 0) ≡ (14, 3, 0))
     × (rewriting (of ((13, 3, 0) ∷ (10, 0, 0) ∷ []) 1) 3 1 99 ≡ refuses 11 0)
-unfolding rewriting change rewrite write packed refusals pairsHold chained padding section
+unfolding rewriting replying change rewrite write packed refusals pairsHold chained padding section
     listOf lowest first forAll forSome both either rootClosed rule formulaAt lower nodeAt kindAt kinds free
 rewrites-groups = (refl, refl, refl, refl)
 
@@ -85,7 +85,7 @@ packs :
     (rewriting aligned 9 8 54 ≡ refuses 13 0)
     × (rewriting aligned 9 8 55 ≡ answers (caseOf (0 ∷ 0 ∷ []) ((0, 0, 1) ∷ (1, 1, 1) ∷ []) (set nodes 8 (8, 6, 7)) 9))
     × (book (begun aligned) (Edit.rewrites 1 9 99 ∷ Edit.rewrites 9 8 54 ∷ []) .file ≡ aligned)
-unfolding book rewriting change rewrite write packed refusals pairsHold chained padding section
+unfolding book rewriting replying change rewrite write packed refusals pairsHold chained padding section
     listOf lowest first forAll forSome both either rootClosed rule formulaAt lower nodeAt kindAt kinds free
 packs = (refl, refl, refl)
 
@@ -96,7 +96,7 @@ merges :
     × (merging F 1 1 55 ≡ refuses 10 0)
     × (merging (startingAt (0 ∷ 1 ∷ []) (5 ∷ 5 ∷ []) ((0, 3, 1) ∷ (1, 3, 1) ∷ []) ((6, 3, 0) ∷ []) 0) 1 0 99
     ≡ answers (startingAt (0 ∷ []) (5 ∷ []) ((0, 3, 0) ∷ []) ((6, 3, 0) ∷ []) 0))
-unfolding merging merge moved movedSteps selected inOrder isIn
+unfolding merging replying merge moved movedSteps selected inOrder isIn
     alike looked vocabulary reduct bisimilar matching met forSomeFun forAllFun implies has setOf table listed
     write packed refusals pairsHold chained padding section
     listOf lowest first forAll forSome both either rootClosed rule formulaAt lower nodeAt kindAt kinds free
@@ -113,7 +113,7 @@ looks :
     ≡ answers (caseOf (129 ∷ []) ((0, 7, 0) ∷ []) ((2, 0, 0) ∷ (2, 7, 0) ∷ (14, 192, 0) ∷ []) 0))
     × (merging (lamp [] ((3, 7, 0) ∷ []) 0) 0 1 99 ≡ refuses 10 0)
     × (merging (lamp ((0, 7, 0) ∷ []) ((13, 129, 0) ∷ []) 0) 0 1 99 ≡ refuses 10 0)
-unfolding merging merge moved movedSteps selected inOrder isIn
+unfolding merging replying merge moved movedSteps selected inOrder isIn
     alike looked vocabulary reduct bisimilar matching met forSomeFun forAllFun implies has setOf table listed
     write packed refusals pairsHold chained padding section
     listOf lowest first forAll forSome both either rootClosed rule formulaAt lower nodeAt kindAt kinds free
@@ -123,7 +123,7 @@ looks = (refl, refl, refl)
 widens :
     replies (begun (lamp [] ((2, 0, 0) ∷ (3, 7, 0) ∷ (10, 0, 1) ∷ []) 2)) (Edit.merges 0 1 99 ∷ Edit.rewrites 3 2 99 ∷ Edit.merges 0 1 99 ∷ [])
     ≡ refuses 10 0 ∷ answers 28 ∷ answers 27 ∷ []
-unfolding replies rewriting change rewrite merging merge moved movedSteps selected inOrder isIn
+unfolding replies rewriting replying change rewrite merging merge moved movedSteps selected inOrder isIn
     alike looked vocabulary reduct bisimilar matching met forSomeFun forAllFun implies has table listed
     write packed refusals pairsHold chained padding section
     listOf lowest first forAll forSome both either rootClosed rule formulaAt lower nodeAt kindAt kinds free

@@ -12,7 +12,7 @@ use Rattle.case_model.specs.Bytes.{listOf, padding, chained, pairsHold, 
 use Rattle.case_model.specs.Case.{flat, write, nodeAt, rule}
 use Rattle.case_model.specs.Kinds.{Triple, kinds, kindAt, nodeOf, nodeHolds}
 use Rattle.case_model.specs.Rows.{lowest, rootClosed, refusals}
-use Rattle.case_model.specs.Replies.{answers, refuses, vetting, opening}
+use Rattle.case_model.specs.Replies.{replying, answers, refuses, vetting, opening}
 
 -- the file of a case, with start states and without
 abbrev pub startingAt : List ℕ → List ℕ → List Triple → List Triple → ℕ → List ℕ
@@ -64,7 +64,7 @@ rows :
     × (vetting (caseOf labels steps nodes 4) 0 ≡ refuses 7 0)
     × (vetting (caseOf labels steps nodes 5) 0 ≡ answers (record { states = 2; nodes = 10 }))
     × (vetting F 4 ≡ refuses 8 0)
-unfolding write packed vetting refusals pairsHold chained padding section
+unfolding write packed vetting replying refusals pairsHold chained padding section
     listOf lowest first forAll forSome both either rootClosed rule formulaAt lower nodeAt kindAt kinds free
 rows = (refl, refl, refl, refl, refl, refl, refl, refl, refl, refl, refl, refl, refl, refl)
 
@@ -91,7 +91,7 @@ groups :
     × (vetting (caseOf labels steps (set nodes 7 (13, 3, 1)) 9) 0 ≡ refuses 5 7)
     × (vetting (caseOf labels steps (set nodes 7 (14, 3, 1)) 9) 0 ≡ refuses 5 7)
     × (vetting (caseOf labels steps (set nodes 7 (15, 0, 0)) 9) 0 ≡ refuses 5 7)
-unfolding write packed vetting refusals pairsHold chained padding section
+unfolding write packed vetting replying refusals pairsHold chained padding section
     listOf lowest first forAll forSome both either rootClosed rule formulaAt lower nodeAt kindAt kinds free
 groups = (refl, refl, refl, refl, refl, refl)
 
@@ -114,7 +114,7 @@ chains :
     × (vetting (laidOut 16 17 17 21 (0 ∷ 5 ∷ 0 ∷ 0 ∷ 0 ∷ 0 ∷ [])) 0 ≡ refuses 1 0)
     × (vetting (laidOut 16 16 17 21 (0 ∷ 5 ∷ 0 ∷ 0 ∷ 0 ∷ [])) 0 ≡ refuses 1 0)
     × (vetting (12 ∷ 0 ∷ 1 ∷ 0 ∷ 13 ∷ 0 ∷ 0 ∷ 0 ∷ 13 ∷ 0 ∷ 4 ∷ 0 ∷ 0 ∷ 5 ∷ 0 ∷ 0 ∷ 0 ∷ []) 0 ≡ refuses 1 0)
-unfolding vetting refusals pairsHold chained padding section
+unfolding vetting replying refusals pairsHold chained padding section
     listOf lowest first forAll forSome both either rootClosed rule formulaAt lower nodeAt kindAt kinds free
 chains = (refl, refl, refl, refl, refl, refl, refl, refl)
 
@@ -126,7 +126,7 @@ starts :
     × (vetting (startingAt (0 ∷ 1 ∷ 1 ∷ []) labels steps nodes 9) 0 ≡ refuses 4 0)
     × (vetting (startingAt (2 ∷ []) labels ((0, 8, 1) ∷ []) nodes 9) 0 ≡ refuses 3 0)
     × (vetting (startingAt (2 ∷ []) labels steps (set nodes 2 (10, 0, 2)) 9) 0 ≡ refuses 4 0)
-unfolding write packed vetting refusals pairsHold chained padding section
+unfolding write packed vetting replying refusals pairsHold chained padding section
     listOf lowest first forAll forSome both either rootClosed rule formulaAt lower nodeAt kindAt kinds free
 starts = (refl, refl, refl, refl, refl, refl)
 
@@ -139,7 +139,7 @@ rising :
     × (vetting (caseOf labels steps (set (set nodes 4 (12, 0, 3)) 5 (6, 8, 0)) 9) 0 ≡ refuses 5 5)
     × (vetting (caseOf labels steps (set nodes 4 (12, 0, 3)) 1) 0 ≡ refuses 6 9)
     × (vetting (caseOf labels steps nodes 4) 4 ≡ refuses 7 0)
-unfolding write packed vetting refusals pairsHold chained padding section
+unfolding write packed vetting replying refusals pairsHold chained padding section
     listOf lowest first forAll forSome both either rootClosed rule formulaAt lower nodeAt kindAt kinds free
 rising = (refl, refl, refl, refl, refl, refl, refl)
 
@@ -151,6 +151,6 @@ parts :
     × (opening widest 2 ≡ 5 ∷ 0 ∷ 0 ∷ 0 ∷ [])
     × (opening (startingAt (0 ∷ 1 ∷ []) labels steps nodes 9) 3 ≡ 0 ∷ 1 ∷ [])
     × (opening F 4 ≡ [])
-unfolding write packed vetting opening refusals pairsHold chained padding section
+unfolding write packed vetting replying opening refusals pairsHold chained padding section
     listOf lowest first forAll forSome both either rootClosed rule formulaAt lower nodeAt kindAt kinds free
 parts = (refl, refl, refl, refl, refl, refl)

@@ -6,10 +6,11 @@ use mathlib.Core.Path.{_≡_, refl, sym, ap, _∙_, subst}
 use native.Mathlib.Decide.{decLt, ℕ-discrete}
 use native.Mathlib.Nat.{not-suc-le-zero, le-antisymm, zero-add}
 use native.Mathlib.Omega.{arith}
-use lib.ListN.{length, getD, set, length-set}
-use lib.Seq.{getD-set-same, getD-set-other}
+use lib.ListN.{length, getD, set, replicate, length-set, length-replicate}
+use lib.Seq.{getD-set-same, getD-set-other, ext-getD}
 use Rattle.flc.specs.Functions.{Fun}
 use Rattle.case_model.specs.Areas.{Filled}
+use Rattle.case_model.proofs.Lists.{zeros}
 
 -- the first i of `count` words are filled
 pub record Filling (w v : List ℕ) (base count i : ℕ) (f : Fun) : Type 0 where
@@ -116,3 +117,9 @@ front-more {w} {v} {i} {y} {f} s h e =
 -- an entry of it
 pub front-at : {w v : List ℕ} {count : ℕ} {f : Fun} → Filled w v 0 count f → (x : ℕ) → x < count → getD v x 0 ≡ f x
 front-at {v = v} s x h = ap (λ k. getD v k 0) (sym (zero-add x)) ∙ s .inside x h
+
+-- a whole area of zeros
+pub zeroed : {w v : List ℕ} → Filled w v 0 (length w) (λ x. 0) → v ≡ replicate (length w) 0
+zeroed {w} {v} s =
+    ext-getD 0 v (replicate (length w) 0) (s .long ∙ sym (length-replicate {A = ℕ} (length w) 0))
+    (λ i h. front-at s i (omega (arith, s .long)) ∙ sym (zeros (length w) i))

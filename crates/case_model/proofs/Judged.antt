@@ -1,6 +1,6 @@
 -- Demand 2: an accepted file with work area enough is answered, and its answer is what Knaster and Tarski say of the root, with the least round.
 -- The root names lower nodes only, so its tree is made of theirs; an environment for a root is monotone; the rest is what binders mean.
-use Prim.Native.Nat.{ℕ, _^_, _<_}
+use Prim.Native.Nat.{ℕ, _^_, _≤_, _<_}
 use mathlib.Core.Bool.{Bool, true, false}
 use mathlib.Core.List.{List}
 use mathlib.Core.Logic.{_↔_}
@@ -18,12 +18,14 @@ use Rattle.flc.proofs.FixedPoints.{Steady}
 use Rattle.flc.proofs.Rounds.{rounds-le, rounds-stand, rounds-first}
 use Rattle.flc.proofs.Meanings.{none-good, mean-small, mean-steady, mu-iff, nu-iff}
 use Rattle.flc.proofs.Unfolding.{lower-at, formulaAt-node}
-use Rattle.case_model.specs.Limits.{standard}
+use Rattle.case_model.specs.Limits.{mostStates, standard}
 use Rattle.case_model.specs.Case.{Case, read, table, nodeAt, rule}
-use Rattle.case_model.specs.Rows.{sound, refusals}
-use Rattle.case_model.specs.Replies.{answers}
-use Rattle.case_model.specs.Judging.{verdict, row9, judging}
+use Rattle.case_model.specs.Rows.{sound, _orElse_, row8, refusals}
+use Rattle.case_model.specs.Replies.{answers, replied, replying}
+use Rattle.case_model.specs.Judging.{Verdict, verdict, row9, judging}
+use Rattle.case_model.specs.Run.{allStates}
 use Rattle.case_model.specs.Decision.{Monotone, InFixed, FirstStill, Decides, Decided}
+use Rattle.case_model.proofs.Replying.{answered, accepted-alone}
 use Rattle.case_model.proofs.Valid.{accepted-valid}
 use Rattle.case_model.specs.Valid.{Valid}
 use Rattle.case_model.proofs.Nodes.{node-lower}
@@ -32,8 +34,21 @@ use Rattle.case_model.proofs.DemandExamples as examples
 -- an accepted file with work area enough is answered at every set of its states
 pub judging-answers : (f : List ℕ) (x words : ℕ) → refusals standard f ≡ sound → x < 2 ^ length (read f .labels) → row9 (read f) words ≡ sound
     → judging f x words ≡ answers (verdict (read f) x)
-unfolding judging
+unfolding judging replying
 judging-answers f x words ok i enough = simp (ok, enough, lt-ltb _ _ i)
+
+-- an answer is of a case, which has few states
+pub judged-few : (f : List ℕ) (x words : ℕ) {v : Verdict} → judging f x words ≡ answers v → length (read f .labels) ≤ mostStates
+unfolding judging
+judged-few f x words e = accepted-valid standard f (answered standard f _ _ e .0) .table .few
+
+-- a set that is all states wherever the file is a case does as well as that of all states
+pub all-judged : (f : List ℕ) (x words : ℕ) → (length (read f .labels) ≤ mostStates → x ≡ allStates (read f))
+    → judging f x words ≡ judging f (allStates (read f)) words
+unfolding judging
+all-judged f x words a = accepted-alone standard f _ _ _ _ (λ ok.
+    let c : Case = read f in
+    ap (λ y. replied (row8 y (2 ^ length (c .labels)) orElse row9 c words) (verdict c y)) (a (accepted-valid standard f ok .table .few)))
 
 -- monotone functions, as tests and as types
 good : {n : ℕ} {f : Fun} → Monotone n f → Good n f

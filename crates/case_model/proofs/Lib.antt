@@ -12,6 +12,7 @@ pub mod SectionBytes
 pub mod KindLines
 pub mod ModalKinds
 pub mod Valid
+pub mod Replying
 pub mod Order
 pub mod Selected
 pub mod Starts

@@ -1,6 +1,6 @@
 -- Padding is no part of a case: two files with the same sections are the same case, are refused alike, and every entry replies the same of both.
 -- What is read is read from a section, and each reply is made of the case and of what the rows find.
-use Prim.Native.Nat.{ℕ, _*_, _/_, _%_, _^_, _≤_, _<_, min, max}
+use Prim.Native.Nat.{ℕ, _*_, _/_, _%_, _≤_, _<_}
 use mathlib.Core.Bool.{Bool, true, _&&_}
 use mathlib.Core.List.{List, [], _∷_}
 use mathlib.Core.Path.{_≡_, refl, sym, ap, ap₂, _∙_, subst}
@@ -9,17 +9,16 @@ use native.Mathlib.Omega.{arith}
 use borrow.Author.Tests.{le-ltb}
 use lib.Dec.{eqb, leb, ltb}
 use lib.ListN.{length, length-append}
-use Rattle.case_model.specs.Limits.{sections, mostNodes, standard}
+use Rattle.case_model.specs.Limits.{Limits, sections, mostNodes, standard}
 use Rattle.case_model.specs.Bytes.{listOf, byteAt, size, pairsHold, section, packed}
 use Rattle.case_model.specs.Case.{Case, read, tripleAt, triples, write}
 use Rattle.case_model.specs.Rows.{Found, sound, refused, _orElse_, unless, lowest, stepWrong, startsRise, row2, row5, row6, row7, row8, refusals}
-use Rattle.case_model.specs.Replies.{Reply, answers, refuses, replied, counts, opened, vetting, opening, row13, counted}
-use Rattle.case_model.specs.Judging.{verdict, row9, judging}
-use Rattle.case_model.specs.Merging.{lowestAlike, classing, merge, row10, merging}
-use Rattle.case_model.specs.Rewriting.{Change, change, isThere, rewrite, rewriting}
+use Rattle.case_model.specs.Replies.{Reply, answers, refuses, replied, counts, replying, vetting, opened, opening, counted}
+use Rattle.case_model.specs.Merging.{merging}
+use Rattle.case_model.specs.Rewriting.{rewriting}
 use Rattle.case_model.specs.Book.{Edit, merges, rewrites, Book, begun, reply, entered, turn}
 use Rattle.case_model.specs.Run.{replies}
-use Rattle.case_model.specs.Padding.{PaddingAside, repacked, SameReplies}
+use Rattle.case_model.specs.Padding.{PaddingAside, repacked, SameReplies, SameParts}
 use Rattle.case_model.proofs.Lists.{length-listOf, getD-listOf}
 use Rattle.case_model.proofs.Sections.{section-length, head-first, section-gap, within, within-longest}
 use Rattle.case_model.proofs.Valid.{accepted-pairs, steps-whole, rule-whole}
@@ -27,16 +26,7 @@ use Rattle.case_model.proofs.SectionBytes.{steps-bytes, rule-bytes}
 use Rattle.case_model.proofs.Codec.{length-packed, packed-section}
 use Rattle.case_model.proofs.Accepting.{packed-holds}
 
--- of a section that is not there nothing is opened
-beyond : (f : List ℕ) (k : ℕ) → (k < sections → ⊥) → opening f k ≡ []
-unfolding opening vetting
-beyond f k h = rw (le-ltb k sections (omega arith)) (none (refusals standard f))
-  where
-    none : (x : Found) → opened (replied (x orElse refused 8 0) (counts (read f))) (section f k) [] ≡ []
-    none sound = refl
-    none (refused n at) = refl
-
-module _ {f g : List ℕ} (p : PaddingAside f g) where
+module _ {most : Limits} {f g : List ℕ} (p : PaddingAside most f g) where
   -- ---- what is read
   pub sizes : (k : ℕ) → k < sections → size f k ≡ size g k
   sizes k h = sym (section-length f k) ∙ ap length (p .same k h) ∙ section-length g k
@@ -54,96 +44,82 @@ module _ {f g : List ℕ} (p : PaddingAside f g) where
   }
 
   -- ---- what the rows find
-  pub refusals-same : refusals standard f ≡ refusals standard g
+  pub refusals-same : refusals most f ≡ refusals most g
   unfolding refusals
   refusals-same = λ z.
       let c : Case = read-same z in
       let m : ℕ = length (c .nodes) in
       let steps : Found = unless (eqb (sizes 1 (omega arith) z % 3) 0) 3 0 orElse lowest 3 (stepWrong c) (length (c .steps)) in
       let whole : Bool = eqb (sizes 2 (omega arith) z % 3) 1 && leb 1 m && leb m mostNodes && ltb (c .root) m in
-      unless ((p .one ∙ sym (p .other)) z) 1 0 orElse row2 standard c orElse steps orElse (unless whole 4 0 orElse unless (startsRise c) 4 0)
+      unless ((p .one ∙ sym (p .other)) z) 1 0 orElse row2 most c orElse steps orElse (unless whole 4 0 orElse unless (startsRise c) 4 0)
       orElse row5 c orElse row6 c orElse row7 c
 
-  -- ---- what the entries reply
-  vetted : (k : ℕ) → vetting f k ≡ vetting g k
-  unfolding vetting
-  vetted k = λ z. replied (refusals-same z orElse row8 k sections) (counts (read-same z))
+  pub padding-aside : SameReplies most f g
+  unfolding replying
+  padding-aside = record { replies = λ own answer z. replied (refusals-same z orElse own (read-same z)) (answer (read-same z)) }
 
-  opened-same : (k : ℕ) → opening f k ≡ opening g k
-  unfolding opening
-  opened-same k = elim (decLt k sections) [
-    | yes h ↦ λ z. opened (vetted k z) (p .same k h z) []
-    | no h ↦ beyond f k h ∙ sym (beyond g k h)
-  ]
+-- of a section that is not there nothing is opened
+beyond : (f : List ℕ) (k : ℕ) → (k < sections → ⊥) → opening f k ≡ []
+unfolding opening vetting replying
+beyond f k h = rw (le-ltb k sections (omega arith)) (none (refusals standard f))
+  where
+    none : (x : Found) → opened (replied (x orElse refused 8 0) (counts (read f))) (section f k) [] ≡ []
+    none sound = refl
+    none (refused n at) = refl
 
-  pub padding-aside : SameReplies f g
-  unfolding judging classing merging rewriting
-  padding-aside = record {
-    vetted = vetted;
-    opened = opened-same;
-    judged = λ x words z. let c : Case = read-same z in
-        replied (refusals-same z orElse row8 x (2 ^ length (c .labels)) orElse row9 c words) (verdict c x);
-    classed = λ room z. let new : List ℕ = listOf (length (read-same z .labels)) (lowestAlike (read-same z)) in
-        replied (refusals-same z orElse row13 new room) new;
-    merged = λ s t room z. let c : Case = read-same z in
-        let n : ℕ = length (c .labels) in
-        let new : List ℕ = write (merge c (min s t) (max s t)) in
-        replied (refusals-same z orElse row8 s n orElse row8 t n orElse row10 c s t orElse row13 new room) new;
-    rewritten = λ law j room z. let e : Change = change (read-same z .nodes) law j in
-        let new : Case = rewrite (read-same z) j e in
-        replied
-        (refusals-same z orElse unless (isThere e) 11 0 orElse unless (leb (length (new .nodes)) mostNodes) 12 0 orElse row13 (write new) room)
-        (write new);
-  }
+pub parts-aside : {f g : List ℕ} → PaddingAside standard f g → SameParts f g
+unfolding opening vetting
+parts-aside {f} {g} p k = elim (decLt k sections) [
+  | yes h ↦ λ z. opened (padding-aside p .replies (λ c. row8 k sections) counts z) (p .same k h z) []
+  | no h ↦ beyond f k h ∙ sym (beyond g k h)
+]
 
 -- ---- the packed file
-module _ (f : List ℕ) where
+module _ (most : Limits) (f : List ℕ) where
   -- it is not longer, since the sections of a file lie behind one another
-  repacked-short : pairsHold standard f ≡ true → length (repacked f) ≤ length f
+  repacked-short : pairsHold most f ≡ true → length (repacked f) ≤ length f
   unfolding repacked listOf
   repacked-short e =
       simp (length-packed, length-append, section-length) (omega (
         arith,
-        head-first standard f e,
-        section-gap standard f e 0 (omega arith),
-        section-gap standard f e 1 (omega arith),
-        section-gap standard f e 2 (omega arith),
-        within standard f e 3 (omega arith),
+        head-first most f e,
+        section-gap most f e 0 (omega arith),
+        section-gap most f e 1 (omega arith),
+        section-gap most f e 2 (omega arith),
+        within most f e 3 (omega arith),
       ))
 
-  repacked-aside : pairsHold standard f ≡ true → PaddingAside f (repacked f)
+  -- clause 1.17, of a file that row 1 does not refuse: its sections packed
+  pub repacked-aside : pairsHold most f ≡ true → PaddingAside most f (repacked f)
   unfolding repacked
   repacked-aside e =
       let l : List (List ℕ) = listOf sections (section f) in
       let four : length l ≡ sections = length-listOf sections (section f) in
       record {
         one = e;
-        other = packed-holds standard l four (omega (arith, repacked-short e, within-longest standard f e));
+        other = packed-holds most l four (omega (arith, repacked-short e, within-longest most f e));
         same = λ k h. sym (packed-section l k (omega arith) ∙ getD-listOf sections (section f) [] k h);
       }
 
-  -- of an accepted file it is the file that its case is written in
-  pub repacked-written : refusals standard f ≡ sound → repacked f ≡ write (read f)
+  -- and of an accepted file: the packed file of its case
+  pub repacked-written : refusals most f ≡ sound → repacked f ≡ write (read f)
   unfolding repacked listOf write
-  repacked-written ok = λ z. packed (section f 0 ∷ steps-bytes f (steps-whole standard f ok) z ∷ rule-bytes f (rule-whole standard f ok) z ∷ section f 3 ∷ [])
+  repacked-written ok = λ z. packed (section f 0 ∷ steps-bytes f (steps-whole most f ok) z ∷ rule-bytes f (rule-whole most f ok) z ∷ section f 3 ∷ [])
 
-  -- clause 1.17, of a file that row 1 does not refuse and its sections packed, and of an accepted file and the packed file of its case
-  pub as-packed : pairsHold standard f ≡ true → SameReplies f (repacked f)
-  as-packed e = padding-aside (repacked-aside e)
-
-  pub as-written : refusals standard f ≡ sound → SameReplies f (write (read f))
-  as-written ok = subst (SameReplies f) (repacked-written ok) (as-packed (accepted-pairs standard f ok))
+  pub written-aside : refusals most f ≡ sound → PaddingAside most f (write (read f))
+  written-aside ok = subst (PaddingAside most f) (repacked-written ok) (repacked-aside (accepted-pairs most f ok))
 
 -- ---- a list of edits
 -- the books' files are one file, or differ in padding alone
 data Same (f g : List ℕ) : Type 0 where
   equal : f ≡ g → Same f g
-  aside : PaddingAside f g → Same f g
+  aside : PaddingAside standard f g → Same f g
 
 reply-same : {f g : List ℕ} → Same f g → (e : Edit) → reply f e ≡ reply g e
+unfolding merging rewriting
 reply-same (equal q) e = ap (λ f. reply f e) q
-reply-same (aside p) (merges s t room) = padding-aside p .merged s t room
-reply-same (aside p) (rewrites law j room) = padding-aside p .rewritten law j room
+reply-same (aside p) (merges s t room) = padding-aside p .replies _ _
+reply-same (aside p) (rewrites law j room) = padding-aside p .replies _ _
 
 -- once an edit is accepted, both books have the file that it wrote
 entered-same : (b c : Book) (e : Edit) (r : Reply (List ℕ)) → Same (b .file) (c .file) → Same (entered b e r .file) (entered c e r .file)
@@ -160,5 +136,5 @@ replies-same b c h (e ∷ l) =
     ap₂ (λ x xs. counted x ∷ xs) r (replies-same (turn b e) (turn c e) next l)
 
 -- clause 1.17: every reply in a list is the same from either file on
-pub list-aside : {f g : List ℕ} → PaddingAside f g → (l : List Edit) → replies (begun f) l ≡ replies (begun g) l
+pub list-aside : {f g : List ℕ} → PaddingAside standard f g → (l : List Edit) → replies (begun f) l ≡ replies (begun g) l
 list-aside {f} {g} p = replies-same (begun f) (begun g) (aside p)

@@ -1,6 +1,6 @@
 -- In a file of bytes a refusal's place is small: a reply fits in one word.
 -- By the rows: a place is where a search stopped, at most as many as there are triples.
-use Prim.Native.Nat.{ℕ, _+_, _*_, _/_, _%_, _^_, _<_}
+use Prim.Native.Nat.{ℕ, _+_, _*_, _/_, _^_, _<_}
 use mathlib.Core.Bool.{Bool, true, false}
 use mathlib.Core.List.{List}
 use native.Mathlib.Omega.{arith}
@@ -9,21 +9,20 @@ use lib.ListN.{length}
 use Rattle.flc.specs.Sets.{first}
 use Rattle.flc.proofs.Tests.{first-le}
 use Rattle.case_model.specs.Limits.{Limits}
-use Rattle.case_model.specs.Bytes.{byteAt, size, pairsHold}
-use Rattle.case_model.specs.Case.{Case, read, triples}
+use Rattle.case_model.specs.Bytes.{byteAt, size}
+use Rattle.case_model.specs.Case.{triples}
 use Rattle.case_model.specs.Rows.{Found, sound, refused, _orElse_, unless, lowest, refusals}
-use Rattle.case_model.specs.Rows.{labelsHold, stepWrong, ruleHolds, startsRise, nodeWrong, binderWrong, rootClosed}
 use Rattle.case_model.proofs.Lists.{length-listOf}
 
 pub data Placed : Found → Type 0 where
   nowhere : Placed sound
   somewhere : {k p : ℕ} → p < 2 ^ 32 → Placed (refused k p)
 
-then : {a b : Found} → Placed a → Placed b → Placed (a orElse b)
+pub then : {a b : Found} → Placed a → Placed b → Placed (a orElse b)
 then nowhere q = q
 then (somewhere h) q = somewhere h
 
-at-zero : (t : Bool) (k : ℕ) → Placed (unless t k 0)
+pub at-zero : (t : Bool) (k : ℕ) → Placed (unless t k 0)
 at-zero true k = nowhere
 at-zero false k = somewhere {p = 0} (omega arith)
 
@@ -35,24 +34,9 @@ at-lowest k wrong c h = go (eqb (first wrong 0 c) c)
     go true = nowhere
     go false = somewhere {p = first wrong 0 c} (omega (arith, first-le wrong 0 c))
 
--- a row whose place is 0, after others
-pub later : {a : Found} → Placed a → (t : Bool) (k : ℕ) → Placed (a orElse unless t k 0)
-later p t k = then p (at-zero t k)
-
 pub refusals-placed : (most : Limits) (f : List ℕ) → ((i : ℕ) → byteAt f i < 256) → Placed (refusals most f)
 unfolding refusals
-refusals-placed most f bytes =
-    let c : Case = read f in
-    later
-    (then
-    (then
-    (then
-    (then (later (at-zero (pairsHold most f) 1) (labelsHold most c) 2) (then (at-zero (eqb (size f 1 % 3) 0) 3) (at-lowest 3 (stepWrong c) _ (few 1))))
-    (later (at-zero (ruleHolds f c) 4) (startsRise c) 4))
-    (at-lowest 5 (nodeWrong c) _ (few 2)))
-    (at-lowest 6 (binderWrong c) _ (few 2)))
-    (rootClosed c)
-    7
+refusals-placed most f bytes = search (then, at-zero, at-lowest, few) depth 12
   where
     few : (k : ℕ) → length (triples f k) < 2 ^ 32
     few k = rw (length-listOf (size f k / 3)) (omega (arith, bytes (4 * k + 2), bytes (4 * k + 2 + 1)))

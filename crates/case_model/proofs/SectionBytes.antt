@@ -1,14 +1,15 @@
--- Steps and rule as bytes: a section of whole triples is these triples, and the rule section is its nodes and the root.
+-- Sections as bytes: each byte is one of the file or 0, a section of whole triples is these triples, and the rule section is its nodes and the root.
 -- The bytes of a list, read one by one from its start, grow by three at a time.
-use Prim.Native.Nat.{ℕ, zero, suc, _+_, _*_, _/_, _%_}
+use Prim.Native.Nat.{ℕ, zero, suc, _+_, _*_, _/_, _%_, _<_}
 use mathlib.Core.List.{List, [], _∷_, _++_, append-assoc}
 use mathlib.Core.Path.{_≡_, refl, sym, ap, _∙_}
+use native.Mathlib.Decide.{decLt}
 use native.Mathlib.Omega.{arith}
 use lib.ListN.{length}
-use Rattle.case_model.specs.Bytes.{listOf, byteAt, size, section}
+use Rattle.case_model.specs.Bytes.{listOf, byteAt, offset, size, section}
 use Rattle.case_model.specs.Case.{read, tripleAt, triples, flat}
 use Rattle.case_model.specs.Kinds.{Triple}
-use Rattle.case_model.proofs.Lists.{listOf-more, listOf-getD}
+use Rattle.case_model.proofs.Lists.{getD-listOf, getD-listOf-end, listOf-more, listOf-getD}
 use Rattle.case_model.proofs.Sections.{section-length}
 use Rattle.case_model.proofs.Codec.{flat-append}
 
@@ -39,6 +40,14 @@ module _ (s : List ℕ) where
   run-all n e = sym (ap run (sym e) ∙ listOf-getD s 0)
 
 module _ (f : List ℕ) where
+  -- what is read from bytes is bytes
+  pub section-small : ((i : ℕ) → byteAt f i < 256) → (k i : ℕ) → byteAt (section f k) i < 256
+  unfolding section
+  section-small small k i = elim (decLt i (size f k)) [
+    | yes h ↦ rw (getD-listOf (size f k) (λ i. byteAt f (offset f k + i)) 0 i h) (small (offset f k + i))
+    | no h ↦ rw (getD-listOf-end (size f k) (λ i. byteAt f (offset f k + i)) 0 i (omega arith)) (omega arith)
+  ]
+
   pub steps-bytes : size f 1 % 3 ≡ 0 → section f 1 ≡ flat (triples f 1)
   steps-bytes h =
       let m : ℕ = size f 1 / 3 in

@@ -12,6 +12,7 @@ use Rattle.case_model.specs.Bytes.{listOf, padding, chained, pairsHold, 
 use Rattle.case_model.specs.Case.{write, table, nodeAt, rule}
 use Rattle.case_model.specs.Kinds.{kinds, kindAt}
 use Rattle.case_model.specs.Rows.{lowest, rootClosed, refusals}
+use Rattle.case_model.specs.Replies.{replying}
 use Rattle.case_model.specs.Judging.{verdict, judging}
 use Rattle.case_model.specs.Merging.{moved, selected, isIn, merge}
 use Rattle.case_model.specs.Run.{holds, everyStart, startsHold, VerdictKept}
@@ -37,13 +38,13 @@ words :
     × (startsHold (fileOf (1 ∷ [])) 8 ≡ false)
     × (startsHold (fileOf (0 ∷ 1 ∷ [])) 8 ≡ false)
     × (startsHold (fileOf []) 8 ≡ true)
-unfolding startsHold everyStart holds judging verdict meanAtom mean has setOf table write packed refusals pairsHold chained padding section
+unfolding startsHold everyStart holds judging replying verdict meanAtom mean has setOf table write packed refusals pairsHold chained padding section
     listOf lowest first forAll forSome both either rootClosed rule formulaAt lower nodeAt kindAt kinds free
 words = (refl, refl, refl, refl)
 
 -- a verdict is not kept from a case whose start states hold to one where they do not, though each state holds in both or in neither ..
 apart : (standing : ℕ → ℕ) → VerdictKept (fileOf (0 ∷ [])) (fileOf (1 ∷ [])) standing → ⊥
-unfolding startsHold everyStart holds judging verdict meanAtom mean has setOf table write packed refusals pairsHold chained padding section
+unfolding startsHold everyStart holds judging replying verdict meanAtom mean has setOf table write packed refusals pairsHold chained padding section
     listOf lowest first forAll forSome both either rootClosed rule formulaAt lower nodeAt kindAt kinds free
 apart standing K =
     let same : true ≡ false = K .starts 8 8 refl refl in
@@ -51,7 +52,7 @@ apart standing K =
 
 -- .. nor if 0, which holds, and 1, which does not, stand for each other, though the word on start states is the same
 exchanged : VerdictKept (fileOf []) (fileOf []) (λ s. 1 - s) → ⊥
-unfolding holds judging verdict meanAtom mean has setOf table write packed refusals pairsHold chained padding section
+unfolding holds judging replying verdict meanAtom mean has setOf table write packed refusals pairsHold chained padding section
     listOf lowest first forAll forSome both either rootClosed rule formulaAt lower nodeAt kindAt kinds free
 exchanged K =
     let same : true ≡ false = K .states 8 8 refl refl 0 (omega arith) in

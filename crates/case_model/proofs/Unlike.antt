@@ -15,13 +15,14 @@ use Rattle.flc.specs.Vocabulary.{Vocabulary}
 use Rattle.flc.specs.Bisimulation.{bisimulation, alike}
 use Rattle.flc.proofs.Tests.{bool-ext}
 use Rattle.case_model.specs.Limits.{standard}
-use Rattle.case_model.specs.Case.{Case, read, write, table}
-use Rattle.case_model.specs.Rows.{Found, sound, refused, _orElse_, unless, refusals}
-use Rattle.case_model.specs.Replies.{refuses, replied, row13}
+use Rattle.case_model.specs.Case.{Case, read, table}
+use Rattle.case_model.specs.Rows.{Found, sound, _orElse_, unless, refusals}
+use Rattle.case_model.specs.Replies.{refuses, replied, replying, row13}
 use Rattle.case_model.specs.Looking.{looked}
-use Rattle.case_model.specs.Merging.{merge, merging}
+use Rattle.case_model.specs.Merging.{mergedFile, merging}
 use Rattle.case_model.proofs.Valid.{accepted-valid}
 use Rattle.case_model.specs.Valid.{Valid}
+use Rattle.case_model.proofs.Replying.{accepted-alone}
 use Rattle.case_model.proofs.Merged.{valid-likeness}
 
 -- ---- either order
@@ -35,25 +36,25 @@ unfolding table
 alike-turned {c} valid s t i j = bool-ext _ _ (valid-likeness valid .symmetric s t i j) (valid-likeness valid .symmetric t s j i)
 
 -- rows 8 and 10 with the states turned round
-turned : (x : Found) (a b d e : Bool) (y : Found) → (x ≡ sound → a ≡ true → b ≡ true → d ≡ e)
-    → x orElse unless a 8 0 orElse unless b 8 0 orElse unless d 10 0 orElse y ≡ x orElse unless b 8 0 orElse unless a 8 0 orElse unless e 10 0 orElse y
-turned (refused k p) a b d e y h = refl
-turned sound true true d e y h = rw (h refl refl refl)
-turned sound true false d e y h = refl
-turned sound false true d e y h = refl
-turned sound false false d e y h = refl
+turned : (a b d e : Bool) (y : Found) → (a ≡ true → b ≡ true → d ≡ e)
+    → unless a 8 0 orElse unless b 8 0 orElse unless d 10 0 orElse y ≡ unless b 8 0 orElse unless a 8 0 orElse unless e 10 0 orElse y
+turned true true d e y h = rw (h refl refl)
+turned true false d e y h = refl
+turned false true d e y h = refl
+turned false false d e y h = refl
 
 -- clause 4.4: which state is named first makes no difference
 pub merge-either : (f : List ℕ) (s t room : ℕ) → merging f s t room ≡ merging f t s room
 unfolding merging
-merge-either f s t room =
-    let n : ℕ = length (read f .labels) in
-    let new : List ℕ = write (merge (read f) (min t s) (max t s)) in
+merge-either f s t room = accepted-alone standard f _ _ _ _ (λ ok.
+    let c : Case = read f in
+    let n : ℕ = length (c .labels) in
+    let new : List ℕ = mergedFile t s c in
     let p : min s t ≡ min t s = omega arith in
     let q : max s t ≡ max t s = omega arith in
-    let d : ℕ → ℕ → Bool = λ s t. not (eqb s t) && alike (looked (read f)) (table (read f)) s t in
-    rw (p, q) (ap (λ z. replied z new) (turned (refusals standard f) (ltb s n) (ltb t n) (d s t) (d t s) (row13 new room) (λ ok i j.
-    rw (eqb-turned s t, alike-turned (accepted-valid standard f ok) s t (ltb-true s n i) (ltb-true t n j)))))
+    let d : ℕ → ℕ → Bool = λ s t. not (eqb s t) && alike (looked c) (table c) s t in
+    rw (p, q) (ap (λ z. replied z new) (turned (ltb s n) (ltb t n) (d s t) (d t s) (row13 new room) (λ i j.
+    rw (eqb-turned s t, alike-turned (accepted-valid standard f ok) s t (ltb-true s n i) (ltb-true t n j))))))
 
 -- ---- unlike
 module _ (f : List ℕ) (ok : refusals standard f ≡ sound) (s t : ℕ) (i : s < length (read f .labels)) (j : t < length (read f .labels)) (ne : s ≡ t → ⊥) where
@@ -74,9 +75,9 @@ module _ (f : List ℕ) (ok : refusals standard f ≡ sound) (s t : ℕ) (i : s 
   -- clause 4.7
   pub unlike-exactly : (room : ℕ)
       → (merging f s t room ≡ refuses 10 0) ↔ ((R : ℕ → ℕ → Bool) → T (bisimulation (looked (read f)) (table (read f)) R) → T (R s t) → ⊥)
-  unfolding merging
+  unfolding merging replying
   unlike-exactly room =
-      let new : List ℕ = write (merge (read f) (min s t) (max s t)) in
+      let new : List ℕ = mergedFile s t (read f) in
       rw (ok, lt-ltb s (length (read f .labels)) i, lt-ltb t (length (read f .labels)) j, ne-eqb s t ne)
       (go (alike W L s t) (leb (length new) room) new unrelated related)
     where

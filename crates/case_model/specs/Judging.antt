@@ -6,9 +6,9 @@ use lib.ListN.{length, replicate}
 use Rattle.flc.specs.Formula.{mean, none}
 use Rattle.flc.specs.Nodes.{roundsAt}
 use Rattle.case_model.specs.Limits.{standard}
-use Rattle.case_model.specs.Case.{Case, read, table, nodeAt, rule}
-use Rattle.case_model.specs.Rows.{Found, _orElse_, unless, row8, refusals}
-use Rattle.case_model.specs.Replies.{Reply, answers, refuses, replied}
+use Rattle.case_model.specs.Case.{Case, table, nodeAt, rule}
+use Rattle.case_model.specs.Rows.{Found, _orElse_, unless, row8}
+use Rattle.case_model.specs.Replies.{Reply, answers, refuses, replying}
 
 -- clause 3.2: a set and a number of rounds
 pub record Verdict : Type 0 where
@@ -24,8 +24,7 @@ row9 c words = unless (leb (2 * length (c .nodes) * 2 ^ length (c .labels)) word
 
 -- clauses 3.1, 3.2 and 7.4: refusals 1 to 9, or the verdict at the set x
 unfoldable pub judging : List ℕ → ℕ → ℕ → Reply Verdict
-judging f x words =
-    replied (refusals standard f orElse row8 x (2 ^ length (read f .labels)) orElse row9 (read f) words) (verdict (read f) x)
+judging f x words = replying standard f (λ c. row8 x (2 ^ length (c .labels)) orElse row9 c words) (λ c. verdict c x)
 
 -- clause 3.3: zeros after an answer; clause 7.5: after a refusal, what was there
 abbrev pub cleared : {A : Type 0} → Reply A → List ℕ → List ℕ

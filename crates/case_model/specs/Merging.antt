@@ -9,20 +9,22 @@ use Rattle.flc.specs.Formula.{actions}
 use Rattle.flc.specs.Bisimulation.{alike}
 use Rattle.case_model.specs.Limits.{mostStates, standard}
 use Rattle.case_model.specs.Bytes.{listOf}
-use Rattle.case_model.specs.Case.{Case, read, write, listed, table}
+use Rattle.case_model.specs.Case.{Case, write, listed, table}
 use Rattle.case_model.specs.Kinds.{Triple}
 use Rattle.case_model.specs.Looking.{looked}
-use Rattle.case_model.specs.Rows.{Found, _orElse_, unless, row8, refusals}
-use Rattle.case_model.specs.Replies.{Reply, replied, row13}
+use Rattle.case_model.specs.Rows.{Found, _orElse_, unless, row8}
+use Rattle.case_model.specs.Replies.{Reply, replying, row13}
 
 -- ---- clause 4.3: the first state, from 0 on, that is alike to s
 unfoldable pub lowestAlike : Case → ℕ → ℕ
 lowestAlike c s = first (alike (looked c) (table c) s) 0 s
 
+-- a byte for each state
+abbrev pub classes : Case → List ℕ
+classes c = listOf (length (c .labels)) (lowestAlike c)
+
 unfoldable pub classing : List ℕ → ℕ → Reply (List ℕ)
-classing f room =
-    let new : List ℕ = listOf (length (read f .labels)) (lowestAlike (read f)) in
-    replied (refusals standard f orElse row13 new room) new
+classing f room = replying standard f (λ c. row13 (classes c) room) classes
 
 -- ---- merging: k is kept, r removed
 -- clauses 4.5 and 4.6: the number of the state that stands for s after the merge
@@ -77,10 +79,13 @@ merge c k r = record {
 abbrev pub row10 : Case → ℕ → ℕ → Found
 row10 c s t = unless (not (eqb s t) && alike (looked c) (table c) s t) 10 0
 
--- clauses 4.4 and 7.4: the lower of s and t is kept
+-- clause 4.4: the file after a merge of s and t, of which the lower is kept
+abbrev pub mergedFile : ℕ → ℕ → Case → List ℕ
+mergedFile s t c = write (merge c (min s t) (max s t))
+
+-- clauses 4.4 and 7.4: refusals 1 to 8, 10 and 13, or that file
 unfoldable pub merging : List ℕ → ℕ → ℕ → ℕ → Reply (List ℕ)
 merging f s t room =
-    let c : Case = read f in
-    let n : ℕ = length (c .labels) in
-    let new : List ℕ = write (merge c (min s t) (max s t)) in
-    replied (refusals standard f orElse row8 s n orElse row8 t n orElse row10 c s t orElse row13 new room) new
+    replying standard f
+    (λ c. row8 s (length (c .labels)) orElse row8 t (length (c .labels)) orElse row10 c s t orElse row13 (mergedFile s t c) room)
+    (mergedFile s t)

@@ -27,13 +27,23 @@ pub record Counts : Type 0 where
 abbrev pub counts : Case → Counts
 counts c = record { states = length (c .labels); nodes = length (c .nodes) }
 
--- clause 6.1: what a file is answered with that is accepted within these limits, before a section number is looked at
-unfoldable pub accepting : Limits → List ℕ → Reply Counts
-accepting most f = replied (refusals most f) (counts (read f))
+-- clauses 7.3 and 7.4, every entry that takes a file: refusals 1 to 7 within its limits, then the rows of its own, or its answer; both are made of the case
+unfoldable pub replying : {A : Type 0} → Limits → List ℕ → (Case → Found) → (Case → A) → Reply A
+replying most f own answer = replied (refusals most f orElse own (read f)) (answer (read f))
 
--- clauses 1.12 and 7.4: refusals 1 to 8, the section number last, or the counts
+-- clause 6.1: what a file is answered with that is accepted within these limits: no row of its own, and the counts
+unfoldable pub accepting : Limits → List ℕ → Reply Counts
+accepting most f = replying most f (λ c. sound) counts
+
+-- an accepted file, and what it was answered with
+pub record Accepted (most : Limits) (f : List ℕ) (n : Counts) : Type 0 where
+  pub rows : refusals most f ≡ sound
+  pub states : n .states ≡ length (read f .labels)
+  pub nodes : n .nodes ≡ length (read f .nodes)
+
+-- clauses 1.12 and 7.4: the section number is looked at last
 unfoldable pub vetting : List ℕ → ℕ → Reply Counts
-vetting f k = replied (refusals standard f orElse row8 k sections) (counts (read f))
+vetting f k = replying standard f (λ c. row8 k sections) counts
 
 -- clauses 1.13 and 1.14: the part where vetting answers, the empty one where it refuses
 abbrev pub opened : {A B : Type 0} → Reply A → B → B → B

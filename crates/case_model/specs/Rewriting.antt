@@ -6,11 +6,11 @@ use lib.Dec.{eqb, leb, ltb}
 use lib.ListN.{length, getD, take, drop}
 use Rattle.flc.specs.Formula.{or, and, chop}
 use Rattle.flc.specs.Nodes.{Node, leaf, two, bind}
-use Rattle.case_model.specs.Case.{Case, read, write, at}
+use Rattle.case_model.specs.Case.{Case, write, at}
 use Rattle.case_model.specs.Kinds.{Triple, kindOf, kindOfTau, lastConstant, nodeOf}
-use Rattle.case_model.specs.Rows.{_orElse_, unless, refusals}
+use Rattle.case_model.specs.Rows.{Found, _orElse_, unless}
 use Rattle.case_model.specs.Limits.{mostNodes, standard}
-use Rattle.case_model.specs.Replies.{Reply, replied, row13}
+use Rattle.case_model.specs.Replies.{Reply, replying, row13}
 
 -- what a law does at node j: nothing, or node j gives way to some nodes and the nodes that others name are renamed
 pub data Change : Type 0 where
@@ -78,11 +78,20 @@ rewrite c j (swap l g) = record {
   starts = c .starts;
 }
 
--- clauses 5.1, 7.4, 8.11 and 8.12: refusals 1 to 7 and 11 to 13, or the new file
+-- clause 5.1: the case that a law makes at node j
+abbrev pub rewritten : ℕ → ℕ → Case → Case
+rewritten law j c = rewrite c j (change (c .nodes) law j)
+
+-- clauses 8.11 and 8.12: the law's shape is there, and the nodes are then not too many
+abbrev pub row11 : ℕ → ℕ → Case → Found
+row11 law j c = unless (isThere (change (c .nodes) law j)) 11 0
+
+abbrev pub row12 : Case → Found
+row12 new = unless (leb (length (new .nodes)) mostNodes) 12 0
+
+-- clauses 5.1 and 7.4: refusals 1 to 7 and 11 to 13, or the new file
 unfoldable pub rewriting : List ℕ → ℕ → ℕ → ℕ → Reply (List ℕ)
 rewriting f law j room =
-    let e : Change = change (read f .nodes) law j in
-    let new : Case = rewrite (read f) j e in
-    replied
-    (refusals standard f orElse unless (isThere e) 11 0 orElse unless (leb (length (new .nodes)) mostNodes) 12 0 orElse row13 (write new) room)
-    (write new)
+    replying standard f
+    (λ c. row11 law j c orElse row12 (rewritten law j c) orElse row13 (write (rewritten law j c)) room)
+    (λ c. write (rewritten law j c))

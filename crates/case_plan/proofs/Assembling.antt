@@ -19,12 +19,11 @@ use Rattle.flc.specs.Nodes.{Node, bind, formulaAt}
 use Rattle.flc.proofs.Masks.{setOf-lt}
 use Rattle.case_model.specs.Limits.{standard, mostNodes, propositions, variables}
 use Rattle.case_model.specs.Kinds.{nodeOf, nodeHolds}
-use Rattle.case_model.specs.Bytes.{offset, size, section}
-use Rattle.case_model.specs.Case.{Case, read, at, nodeAt, rule}
+use Rattle.case_model.specs.Case.{Case, at, nodeAt, rule}
 use Rattle.case_model.specs.Valid.{ValidRule, Valid}
 use Rattle.case_model.specs.Reach.{Reached, ReachSet}
 use Rattle.case_model.specs.Areas.{Filled, from}
-use Rattle.case_model.proofs.Lists.{getD-listOf, getD-listOf-end, zeros}
+use Rattle.case_model.proofs.Lists.{zeros}
 use Rattle.case_model.proofs.Nodes.{fits-bind, node-fits, one-binder, closed-all}
 use Rattle.case_reader.specs.Read.{freeSets}
 use Rattle.case_reader.specs.StepRows.{stepsRead, StepRows}
@@ -38,14 +37,6 @@ use Rattle.case_plan.proofs.Drawing.{table-is, source-small}
 -- a shift by at most 16 loses nothing
 pub power : (n : ℕ) → n ≤ 16 → (1 * 2 ^ n) % 2 ^ 64 ≡ 2 ^ n
 power n h = rw one-mul (mod-eq-of-lt (pow-lt {i = n} {j = 64} (omega arith)))
-
--- a label is a byte
-pub label-small : (f : List ℕ) → ((i : ℕ) → getD f i 0 < 256) → (s : ℕ) → getD (read f .labels) s 0 < 256
-unfolding section
-label-small f small s = elim (decLt s (size f 0)) [
-  | yes h ↦ rw (getD-listOf (size f 0) (λ i. getD f (offset f 0 + i) 0) 0 s h) (small (offset f 0 + s))
-  | no h ↦ rw (getD-listOf-end (size f 0) (λ i. getD f (offset f 0 + i) 0) 0 s (omega arith)) (omega arith)
-]
 
 -- ---- nodes
 zero-word : (r : ℕ) → wordOf (0, 0, 0) r ≡ 0

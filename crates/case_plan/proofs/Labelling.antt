@@ -1,12 +1,10 @@
 -- Sets of states made digit by digit, from the highest state down.
 -- A digit joins the set of the states from s on, so that it is the set of those from s - 1 on.
-use Prim.Native.Nat.{ℕ, suc, _+_, _-_, _*_, _/_, _%_, _^_, _≤_, _<_}
+use Prim.Native.Nat.{ℕ, suc, _+_, _-_, _*_, _≤_, _<_}
 use mathlib.Core.Bool.{Bool}
 use mathlib.Core.List.{List}
 use mathlib.Core.Path.{_≡_, refl, sym, ap, ap₂, _∙_}
-use native.Mathlib.Decide.{decLt, ℕ-discrete}
 use native.Mathlib.Omega.{arith}
-use borrow.Author.Tests.{ne-eqb}
 use lib.ListN.{getD}
 use lib.Pow.{pow-mono}
 use Rattle.flc.specs.Sets.{has, bit, setOf}
@@ -18,17 +16,6 @@ use Rattle.case_model.specs.Areas.{Filled, from}
 use Rattle.case_model.proofs.Filling.{filled-ext, filled-over}
 use Rattle.case_plan.specs.Plans.{propsAt}
 use Rattle.case_plan.specs.Parts.{labelled, withState}
-
--- a test as a digit
-pub bit-has : (l i : ℕ) → bit (has l i) ≡ l / 2 ^ i % 2
-unfolding has
-bit-has l i = elim (ℕ-discrete (l / 2 ^ i % 2) 1) [
-  | yes e ↦ rw e refl
-  | no e ↦ rw (ne-eqb (l / 2 ^ i % 2) 1 e) (zero-digit (l / 2 ^ i) e)
-]
-  where
-    zero-digit : (m : ℕ) → (m % 2 ≡ 1 → ⊥) → 0 ≡ m % 2
-    zero-digit m e = elim (ℕ-discrete (m % 2) 0) [ yes q ↦ sym q | no q ↦ absurd (elim (decLt 0 (m % 2)) [ yes h ↦ e (omega arith) | no h ↦ q (omega arith) ]) ]
 
 module _ (q : ℕ → Bool) (n : ℕ) where
   states-none : 0 ≡ setOf (n - n) (λ t. q (n + t))

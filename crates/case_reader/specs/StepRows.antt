@@ -1,4 +1,4 @@
--- A step relation as 128 rows of masks: bit t of row 8s + a is the step (s, a, t). Turned round, bit s of row 8t + a is that step.
+-- A step relation between 16 states as 128 rows of masks: bit t of row 8s + a is the step (s, a, t). Turned round, bit s of row 8t + a is that step.
 use Prim.Native.Nat.{ℕ, _+_, _*_, _%_, _^_, _<_}
 use mathlib.Core.Bool.{Bool, true, false, _&&_, cond}
 use mathlib.Core.List.{List, map}

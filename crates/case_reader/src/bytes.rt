@@ -1,5 +1,4 @@
 // Bytes and words of a file, at any position.
-ghost use Prim.Native.Nat.{_<_};
 ghost use Rattle.case_model.specs.Bytes.{byteAt, wordAt};
 ghost use Rattle.case_reader.specs.Read.{Is};
 
@@ -14,10 +13,13 @@ pub fn byte(file: &[u8], at: usize) -> usize
     }
 }
 
-// Two bytes, low byte first.
-pub(crate) fn word(file: &[u8], at: usize) -> usize
-    requires { ⌜ at < 65536 ⌝ }
+// Two bytes, low byte first; 0 past the end. The test is against the last position and not the length: where the position is known, nothing is left of it.
+pub fn word(file: &[u8], at: usize) -> usize
     ensures { λ r. ⌜ Is (wordAt (now (file .entry)) at) 65536 r ⌝ }
 {
-    byte(file, at) + 256 * byte(file, at + 1)
+    if at < usize::MAX {
+        byte(file, at) + 256 * byte(file, at + 1)
+    } else {
+        0
+    }
 }

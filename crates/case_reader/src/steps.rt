@@ -1,4 +1,4 @@
-// The steps as a relation in 128 rows of masks: bit t of row 8s + a is the step (s, a, t). Steps of other numbers have no place in it.
+// The steps between states below 16 as a relation in 128 rows of masks: bit t of row 8s + a is the step (s, a, t). Other steps have no place in it.
 // Turned round, each step goes from its end to its start, and a row has the states with a step to one.
 ghost use mathlib.Core.Path.{_≡_};
 ghost use Prim.Native.Nat.{_<_};

@@ -8,3 +8,4 @@ pub mod Iterating
 pub mod Settling
 pub mod Owned
 pub mod Rooting
+pub mod Asking

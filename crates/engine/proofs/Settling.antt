@@ -18,7 +18,7 @@ use Rattle.flc.specs.Formula.{fix, Env, mean}
 use Rattle.flc.specs.Nodes.{bind, formulaAt}
 use Rattle.flc.specs.Order.{Agree, GoodEnv}
 use Rattle.flc.specs.Iterates.{iterate, Rising}
-use Rattle.flc.proofs.Masks.{setOf-none}
+use Rattle.flc.proofs.Masks.{setOf-none, set-all}
 use Rattle.flc.proofs.FixedPoints.{Steady, rising-agree, iterate-agree, iterate-fixed, approx-iterate, approx-rising}
 use Rattle.flc.proofs.Rounds.{settled, rounds-unique}
 use Rattle.flc.proofs.Meanings.{mean-steady, mean-rising, mean-fix}
@@ -31,7 +31,7 @@ use Rattle.case_model.specs.Kinds.{kindAt}
 use Rattle.case_reader.specs.NodeKinds.{lineOf}
 use Rattle.case_reader.specs.Read.{triple}
 use Rattle.case_plan.specs.Plans.{Plan, tableOf, nodesOf, meaning, Sound}
-use Rattle.tables.proofs.Sizes.{set-all, size-some}
+use Rattle.tables.proofs.Sizes.{size-some}
 use Rattle.engine.specs.declared.refresh.Binder.{Binder}
 use Rattle.engine.specs.Blocks.{block, Kept, env, Right, RightAt}
 use Rattle.engine.specs.Dependence.{Only, asBound, Settled}

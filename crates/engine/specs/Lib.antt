@@ -2,3 +2,4 @@ pub mod Blocks
 pub mod Moves
 pub mod Dependence
 pub mod Computing
+pub mod Asking

@@ -1,13 +1,13 @@
--- Sets as numbers: the members of setOf, two sets with the same members, and that | and & are union and intersection.
+-- Sets as numbers: the members of setOf, two sets with the same members, | and & as union and intersection; no state, all states, the other states.
 -- By induction on the width: the lowest digit, then the half.
-use mathlib.Core.Path.{_≡_, refl, sym, ap, ap₂, _∙_}
-use mathlib.Core.Bool.{Bool, true, false}
-use Prim.Native.Nat.{ℕ, zero, suc, _+_, _*_, _/_, _%_, _^_, _≤_, _<_, suc-le-suc, min, max}
+use mathlib.Core.Path.{_≡_, refl, sym, ap, ap₂, _∙_, subst}
+use mathlib.Core.Bool.{Bool, true, false, not, cond}
+use Prim.Native.Nat.{ℕ, zero, suc, _+_, _-_, _*_, _/_, _%_, _^_, _≤_, _<_, suc-le-suc, min, max}
 use native.Mathlib.Nat.{le-of-suc-le-suc, not-suc-le-zero, div-one, add-comm, zero-div, div-eq-of-lt, lt-of-lt-of-le}
 use native.Mathlib.Numerals.{add-one}
 use native.Mathlib.Omega.{arith}
-use lib.Dec.{eqb, eqb·zero-suc, eqb·suc-zero, eqb·suc-suc}
-use lib.Pow.{shr-shr, pow-mono}
+use lib.Dec.{T, eqb, eqb·zero-suc, eqb·suc-zero, eqb·suc-suc}
+use lib.Pow.{shr-shr, pow-pos, pow-mono}
 use lib.Bits.{bitOr, bitAnd, or-shr, and-shr, or-step, and-step, or-lt, and-lt}
 use Rattle.flc.specs.Sets.{both, either, has, bit, setOf}
 
@@ -35,6 +35,11 @@ has-zero x = rw div-one
 pub has-suc : (x s : ℕ) → has x (suc s) ≡ has (x / 2) s
 unfolding has
 has-suc x s = rw (shr-shr x 1 s, add-comm 1 s, add-one)
+
+-- the digit of a state is whether the set has it
+pub bit-has : (x s : ℕ) → bit (has x s) ≡ x / 2 ^ s % 2
+unfolding has
+bit-has x s = bit-eqb (x / 2 ^ s % 2) (omega arith)
 
 -- ---- members
 
@@ -159,8 +164,47 @@ has-single (suc k) (suc t) =
     let e : 2 ^ suc k / 2 ≡ 2 ^ k = omega arith in
     has-suc (2 ^ suc k) t ∙ ap (λ x. has x t) e ∙ has-single k t ∙ sym (eqb·suc-suc k t)
 
--- ---- no state
+-- ---- no state, all states, the other states
 pub setOf-none : (n : ℕ) → setOf n (λ s. false) ≡ 0
 unfolding setOf
 setOf-none zero = refl
 setOf-none (suc n) = omega (arith, setOf-none n)
+
+-- each of n states passes a test or fails it
+two-parts : (n : ℕ) (q : ℕ → Bool) → setOf n q + setOf n (λ s. not (q s)) + 1 ≡ 2 ^ n
+unfolding setOf
+two-parts zero q = omega arith
+two-parts (suc n) q = omega (arith, bit-not (q zero), two-parts n (λ s. q (suc s)))
+  where
+    bit-not : (b : Bool) → bit b + bit (not b) ≡ 1
+    bit-not true = refl
+    bit-not false = refl
+
+-- those that fail it are the others
+pub set-rest : (n : ℕ) (q : ℕ → Bool) → 2 ^ n - 1 - setOf n q ≡ setOf n (λ s. not (q s))
+set-rest n q = omega (arith, two-parts n q)
+
+-- at each state
+pub has-rest : (n x s : ℕ) → x < 2 ^ n → s < n → has (2 ^ n - 1 - x) s ≡ not (has x s)
+has-rest n x s h k =
+    ap (λ y. has (2 ^ n - 1 - y) s) (sym (setOf-has n x h)) ∙ ap (λ y. has y s) (set-rest n (has x)) ∙ has-setOf n _ s k
+
+-- all pass the test that none fails
+pub set-all : (n : ℕ) → setOf n (λ s. true) ≡ 2 ^ n - 1
+set-all n = omega (arith, two-parts n (λ s. true), setOf-none n)
+
+-- each of them is there
+pub has-all : (n s : ℕ) → s < n → T (has (2 ^ n - 1) s)
+has-all n s k = subst T (sym (ap (λ x. has x s) (sym (set-all n)) ∙ has-setOf n _ s k)) tt
+
+-- ---- a set if the test b passes, else no state
+-- a state is in it if the test passes and the set has it
+pub given-has : (b : Bool) (x s : ℕ) → both b (has x s) ≡ has (cond b x 0) s
+unfolding both
+given-has true x s = refl
+given-has false x s = sym (has-empty s)
+
+-- it is as small as the set
+pub given-small : (b : Bool) (x n : ℕ) → x < 2 ^ n → cond b x 0 < 2 ^ n
+given-small true x n h = h
+given-small false x n h = pow-pos n

@@ -29,7 +29,7 @@ pub extern "C" fn hoidrul_vet(file: &[u8], section: usize) -> u64
 {
     let vetted = case_file::vet(file, section);
     match vetted {
-        Vetted::Case(case) => (case.states() + case.nodes() * 65536) as u64,
+        Vetted::Counts(counts) => (counts.states + counts.nodes * 65536) as u64,
         Vetted::Refused(refusal) => refused(refusal),
     }
 }
@@ -40,7 +40,7 @@ pub extern "C" fn hoidrul_open(file: &[u8], section: usize) -> u64
     ensures { λ r. ⌜ r ≡ spanWord (openedAt (now (file .entry)) section) (length (opening (now (file .entry)) section)) ⌝ }
 {
     let vetted = case_file::vet(file, section);
-    let Vetted::Case(_) = vetted else {
+    let Vetted::Counts(_) = vetted else {
         return 0;
     };
     let offset = case_reader::section_offset(file, section);

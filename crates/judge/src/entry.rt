@@ -2,23 +2,23 @@
 ghost use mathlib.Core.Path.{_≡_};
 ghost use lib.ListN.{length};
 ghost use Rattle.case_model.specs.Limits.{standard};
-ghost use Rattle.case_model.specs.Rows.{refusals, sound};
+ghost use Rattle.case_model.specs.Replies.{Accepted};
 ghost use Rattle.case_model.specs.Judging.{judging, cleared};
 ghost use Rattle.case_plan.specs.Plans.{decoded};
-ghost use Rattle.judge.specs.Asking.{Asked, planVerdict};
+ghost use Rattle.case_file.specs.EnumNumbers.{caseCounts};
+ghost use Rattle.engine.specs.Asking.{Asked};
+ghost use Rattle.judge.specs.PlanVerdicts.{planVerdict};
 ghost use Rattle.judge.specs.EnumNumbers.{judgedReply, answer};
 use case_file::Case;
+use case_file::Checked;
 use case_file::Reason;
 use case_file::Refusal;
-use case_file::Vetted;
 use case_plan::Plan;
 use case_plan::ROOT;
 use case_plan::SIZE;
 use case_plan::plan;
-use case_reader::node_count;
-use case_reader::state_count;
 use engine::run;
-use tables::constant;
+use tables::clear;
 
 pub struct Verdict {
     pub set: u16,
@@ -42,22 +42,20 @@ fn answer(work: &mut [u16], plan: &Plan, set: u16) -> Verdict
 }
 
 // Of an accepted case: rows 8 and 9, then the answer, after which the area is cleared.
-fn judge_accepted(file: &[u8], set: u16, work: &mut [u16]) -> Judged
-    requires { ⌜ refusals standard (now file) ≡ sound ⌝ }
+fn judge_accepted(file: &[u8], case: Case, set: u16, work: &mut [u16]) -> Judged
+    requires { ⌜ Accepted standard (now file) (caseCounts case) ⌝ }
     ensures { λ r. ⌜ judgedReply r ≡ judging (now (file .entry)) set (length (now (work .entry))) ⌝ }
     ensures { λ r. ⌜ now (work .exit) ≡ cleared (judging (now (file .entry)) set (length (now (work .entry)))) (now (work .entry)) ⌝ }
 {
-    let m = node_count(file);
-    let size = 1usize << state_count(file);
-    let words = work.len();
-    let x = set as usize;
-    if size <= x {
+    let inside = case.has_set(set as usize);
+    if !inside {
         return Judged::Refused(Refusal {
             reason: Reason::Beyond,
             place: 0,
         });
     }
-    if words < 2 * m * size {
+    let enough = case.has_area(work.len());
+    if !enough {
         return Judged::Refused(Refusal {
             reason: Reason::Work,
             place: 0,
@@ -65,7 +63,7 @@ fn judge_accepted(file: &[u8], set: u16, work: &mut [u16]) -> Judged
     }
     let plan = plan(file);
     let verdict = answer(work, &plan, set);
-    constant(work, words, 0, 0);
+    clear(work);
     Judged::Verdict(verdict)
 }
 
@@ -74,9 +72,9 @@ pub fn judge(file: &[u8], set: u16, work: &mut [u16]) -> Judged
     ensures { λ r. ⌜ judgedReply r ≡ judging (now (file .entry)) set (length (now (work .entry))) ⌝ }
     ensures { λ r. ⌜ now (work .exit) ≡ cleared (judging (now (file .entry)) set (length (now (work .entry)))) (now (work .entry)) ⌝ }
 {
-    let vetted = Case::new(file);
-    let Vetted::Refused(refusal) = vetted else {
-        return judge_accepted(file, set, work);
+    let checked = Case::new(file);
+    let Checked::Case(case) = checked else {
+        return Judged::Refused(checked.refusal());
     };
-    Judged::Refused(refusal)
+    judge_accepted(file, case, set, work)
 }

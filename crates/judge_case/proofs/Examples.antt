@@ -15,7 +15,7 @@ use Rattle.case_model.specs.Limits.{sections, standard}
 use Rattle.case_model.specs.Case.{nodeAt, rule}
 use Rattle.case_model.specs.Kinds.{kinds, kindAt}
 use Rattle.case_model.specs.Rows.{refused, lowest, rootClosed, refusals}
-use Rattle.case_model.specs.Replies.{answers}
+use Rattle.case_model.specs.Replies.{replying, answers}
 use Rattle.case_model.specs.Judging.{verdict, judging}
 use Rattle.case_model.specs.Run.{everyStart, startsHold}
 use Rattle.drives.specs.Drives.{Right, drives}
@@ -38,7 +38,7 @@ unfolding drives
 right = drives-right .0
 
 judged : judging (caseF 9) 3 words ≡ answers (record { set = 3; rounds = 2 })
-unfolding judging verdict section listOf
+unfolding judging replying verdict section listOf
 judged = rw (right .accepted, right .gives .0, right .counts .0)
 
 -- "states 2", "rounds 2", "0 yes", "1 yes", "starts yes"

@@ -1,11 +1,9 @@
 // Judges one case from standard input on all its states, and prints which of them hold, or the refusal.
-ghost use mathlib.Core.Bool.{true};
 ghost use mathlib.Core.List.{_++_};
 ghost use mathlib.Core.Path.{_≡_};
-ghost use Prim.Native.Nat.{_+_, _≤_, _<_};
+ghost use Prim.Native.Nat.{_+_, _≤_};
 ghost use lib.ListN.{length};
-ghost use Rattle.flc.specs.Sets.{setOf, has};
-ghost use Rattle.case_model.specs.Limits.{mostStates};
+ghost use Rattle.flc.specs.Sets.{has};
 ghost use Rattle.case_model.specs.Case.{read};
 ghost use Rattle.case_model.specs.Run.{everyStart};
 ghost use Rattle.case_file.specs.EnumNumbers.{number};
@@ -13,33 +11,13 @@ ghost use Rattle.judge.specs.EnumNumbers.{answer};
 ghost use Rattle.judge_case.specs.Printed.{yesOrNo, numeral, line, verdictLines, refusalLine, words, page, Shows, Grew, Blank};
 use case_file::Case;
 use case_file::Refusal;
+use case_reader::all_states;
+use case_reader::holds;
 use case_reader::start;
 use case_reader::start_count;
 use case_reader::state_count;
 use judge::Judged;
 use judge::Verdict;
-
-// The set of all of n states; of more than 16, which no case has, any set.
-fn all_states(n: usize) -> u16
-    ensures { λ r. ⌜ (n ≤ mostStates → r ≡ setOf n (λ s. true)) ⌝ }
-{
-    if n <= Case::STATES {
-        ((1usize << n) - 1) as u16
-    } else {
-        0
-    }
-}
-
-// Is state s in the set?
-fn holds(set: u16, s: usize) -> bool
-    ensures { λ r. ⌜ r ≡ has set s ⌝ }
-{
-    if s < Case::STATES {
-        (set >> s) % 2 == 1
-    } else {
-        false
-    }
-}
 
 // Is every start state in the set?
 fn starts_hold(file: &[u8], set: u16) -> bool

@@ -12,6 +12,7 @@ use Rattle.case_model.specs.Limits.{standard}
 use Rattle.case_model.specs.Bytes.{listOf, byteAt, offset, size, section, pairs}
 use Rattle.case_model.specs.Case.{Case, read, flat, write}
 use Rattle.case_model.specs.Rows.{sound, refusals}
+use Rattle.case_model.specs.Replies.{Counts}
 use Rattle.case_model.specs.Merging.{movedSteps, inOrder, merge}
 use Rattle.case_model.proofs.Lists.{length-listOf, listOf-ext}
 use Rattle.case_model.proofs.Sections.{section-length, section-after, within}
@@ -24,7 +25,7 @@ use Rattle.case_model.proofs.Laying.{laid-after, laid-as}
 use Rattle.case_reader.specs.StepRows.{relation, StepRows}
 use Rattle.case_writer.specs.Parts.{part}
 use Rattle.case_writer.proofs.Packing.{ended, next, laid-packed}
-use Rattle.merged_file.specs.Merged.{total, Named, Measured, mergedFile}
+use Rattle.merged_file.specs.Merged.{total, Named, Measured, newFile}
 use Rattle.merged_file.specs.declared.writing.Sizes.{Sizes}
 use Rattle.merged_starts.specs.StartSets.{startSet, Small, members}
 use Rattle.merged_starts.proofs.Members.{members-merged, members-few}
@@ -80,11 +81,11 @@ module _ {f : List ℕ} {p : Pair} {rows : List ℕ} {set : ℕ} {z : Sizes} (m 
   c = merge (read f) (p .kept) (p .removed)
 
   valid : Valid standard (read f)
-  valid = accepted-valid standard f (m .named .accepted)
+  valid = accepted-valid standard f (m .accepted)
 
   states : length (c .labels) ≡ p .removed + (length (read f .labels) - suc (p .removed))
   unfolding c merge
-  states = simp (length-append, length-take-le (p .removed) (read f .labels) (m .named .removed), length-drop)
+  states = simp (length-append, length-take-le (p .removed) (read f .labels) (m .removed), length-drop)
 
   steps : inOrder 2048 (relation rows) ≡ c .steps
   unfolding c merge
@@ -97,7 +98,7 @@ module _ {f : List ℕ} {p : Pair} {rows : List ℕ} {set : ℕ} {z : Sizes} (m 
   unfolding c
   starts = ap members (m .set-is) ∙ members-merged (read f) p
 
-  pub total-is : total z ≡ length (mergedFile f p)
+  pub total-is : total z ≡ length (newFile f p)
   unfolding c
   total-is =
       let e : length (c .nodes) ≡ length (read f .nodes) = unfold merge in refl in
@@ -112,7 +113,7 @@ module _ {f : List ℕ} {p : Pair} {rows : List ℕ} {set : ℕ} {z : Sizes} (m 
         m .rule,
         m .starts,
         nodes-length f,
-        rule-whole standard f (m .named .accepted),
+        rule-whole standard f (m .accepted),
       )
 
   abbrev sizes : List ℕ
@@ -121,15 +122,15 @@ module _ {f : List ℕ} {p : Pair} {rows : List ℕ} {set : ℕ} {z : Sizes} (m 
   pub merged-laid : {w v1 v2 v3 v4 v5 v6 : List ℕ} {a b d e g h : ℕ} (n o q : ℕ) → n ≡ z .labels - p .removed → o ≡ offset f 0 → q ≡ offset f 2
       → Laid w v1 0 a (pairs (4 * length sizes) sizes) → Laid v1 v2 a b (part f o (p .removed)) → Laid v2 v3 b d (part f (o + p .removed + 1) n)
       → Laid v3 v4 d e (flat (inOrder 2048 (relation rows))) → Laid v4 v5 e g (part f q (z .rule))
-      → Laid v5 v6 g h (members set) → Laid w v6 0 h (mergedFile f p)
+      → Laid v5 v6 g h (members set) → Laid w v6 0 h (newFile f p)
   unfolding c write merge
   merged-laid n o q i j k h1 h2 h3 h4 h5 h6 =
       let len : n ≡ length (read f .labels) - suc (p .removed) = omega (arith, m .labels) in
-      let labels = (λ y. part f (j y) (p .removed) ++ part f (j y + p .removed + 1) (len y)) ∙ labels-are f (p .removed) (m .named .removed) in
-      let rule = ap₂ (part f) k (m .rule) ∙ rule-is f (m .named .accepted) in
+      let labels = (λ y. part f (j y) (p .removed) ++ part f (j y + p .removed + 1) (len y)) ∙ labels-are f (p .removed) (m .removed) in
+      let rule = ap₂ (part f) k (m .rule) ∙ rule-is f (m .accepted) in
       laid-packed sizes h1 (next (m .labels ∙ sym states) (laid-as labels (laid-after h2 h3))
       (next (sym step-bytes) (laid-as (ap flat steps) h4)
-      (next (m .rule ∙ sym (rule-size f (m .named .accepted))) (laid-as rule h5)
+      (next (m .rule ∙ sym (rule-size f (m .accepted))) (laid-as rule h5)
       (next (m .starts ∙ ap length starts) (laid-as starts h6) ended))))
 
   -- each part lies within the file, and the sizes are small
@@ -143,8 +144,8 @@ module _ {f : List ℕ} {p : Pair} {rows : List ℕ} {set : ℕ} {z : Sizes} (m 
 
   pub fits : Within
   fits =
-      let ok = accepted-pairs standard f (m .named .accepted) in
-      let one = rule-whole standard f (m .named .accepted) in
+      let ok = accepted-pairs standard f (m .accepted) in
+      let one = rule-whole standard f (m .accepted) in
       let node : 1 ≤ size f 2 / 3 = omega (arith, nodes-length f, valid .rule .root) in
       record {
         first = omega (arith, section-after standard f ok 0 2 (omega arith) (omega arith), within standard f ok 2 (omega arith), section-length f 0, node);
@@ -155,26 +156,27 @@ module _ {f : List ℕ} {p : Pair} {rows : List ℕ} {set : ℕ} {z : Sizes} (m 
         starts-few = members-few set;
       }
 
--- from what is known before anything is measured
-named-valid : {f : List ℕ} {p : Pair} {n : ℕ} → Named f p n → Valid standard (read f)
-named-valid {f} h = accepted-valid standard f (h .accepted)
+-- ---- from what is known before anything is measured
+module _ {f : List ℕ} {n : Counts} {p : Pair} {rows : List ℕ} (h : Named f n p rows) where
+  named-valid : Valid standard (read f)
+  named-valid = accepted-valid standard f (h .accepted .rows)
 
--- its states have a place in a set
-pub starts-small : {f : List ℕ} {p : Pair} {n : ℕ} → Named f p n → Small (read f) p
-starts-small h =
-    let v = named-valid h in
-    record { kept = omega (arith, h .kept, h .states, v .table .few); starts = λ i l. omega (arith, start-in v i l, v .table .few) }
+  -- its states have a place in a set
+  pub starts-small : Small (read f) p
+  starts-small =
+      let few = named-valid .table .few in
+      record { kept = omega (arith, h .kept, h .accepted .states); starts = λ i l. omega (arith, start-in named-valid i l) }
 
-pub measured : {f : List ℕ} {p : Pair} {n set : ℕ} {rows merged : List ℕ} (z : Sizes) → Named f p n → StepRows (read f .steps) rows
-    → StepRows (movedSteps (p .kept) (p .removed) (inOrder 2048 (relation rows))) merged → z .labels ≡ p .removed + (n - suc (p .removed))
-    → z .steps ≡ 3 * length (inOrder 2048 (relation merged)) → z .rule ≡ size f 2 → set ≡ startSet (read f) p
-    → z .starts ≡ length (members set) → Measured f p merged set z
-measured {f} {p} z h R m i j k e l = record {
-  named = record { accepted = h .accepted; states = refl; kept = omega (arith, h .states); removed = omega (arith, h .states) };
-  marks = carried-all (named-valid h .table) (p .kept) (p .removed) R m;
-  labels = omega (arith, h .states);
-  steps = j;
-  set-is = e;
-  rule = k;
-  starts = l;
-}
+  pub measured : {set : ℕ} {merged : List ℕ} (z : Sizes) → StepRows (movedSteps (p .kept) (p .removed) (inOrder 2048 (relation rows))) merged
+      → z .labels ≡ p .removed + (n .states - suc (p .removed)) → z .steps ≡ 3 * length (inOrder 2048 (relation merged))
+      → z .rule ≡ size f 2 → set ≡ startSet (read f) p → z .starts ≡ length (members set) → Measured f p merged set z
+  measured z m i j k e l = record {
+    accepted = h .accepted .rows;
+    removed = omega (arith, h .removed, h .accepted .states);
+    marks = carried-all (named-valid .table) (p .kept) (p .removed) (h .steps) m;
+    labels = omega (arith, h .accepted .states);
+    steps = j;
+    set-is = e;
+    rule = k;
+    starts = l;
+  }

@@ -4,15 +4,14 @@ ghost use Prim.Native.Nat.{suc, _+_, _-_, _≤_};
 ghost use lib.ListN.{length};
 ghost use Rattle.case_model.specs.Areas.{Laid};
 ghost use Rattle.case_model.specs.Replies.{counted, written};
-ghost use Rattle.case_file.specs.EnumNumbers.{writtenReply};
-ghost use Rattle.merged_file.specs.Merged.{total, Named, Measured, mergedFile, fitting};
+ghost use Rattle.case_file.specs.EnumNumbers.{caseCounts, writtenReply};
+ghost use Rattle.merged_file.specs.Merged.{total, Named, Measured, newFile, fitting};
 use case_file::Case;
 use case_file::Reason;
 use case_file::Written;
 use case_file::refused;
 use case_reader::section_offset;
 use case_reader::section_size;
-use case_reader::step_rows;
 use case_writer::put_pairs;
 use case_writer::put_part;
 use merged_starts::merged_starts;
@@ -40,7 +39,7 @@ fn put_merged(
     out: &mut [u8],
 ) -> usize
     requires { ⌜ Measured (now file) pair rows starts sizes × (total sizes ≤ length (now out)) ⌝ }
-    ensures { λ r. ⌜ Laid (now (out .entry)) (now (out .exit)) 0 r (mergedFile (now (file .entry)) pair) ⌝ }
+    ensures { λ r. ⌜ Laid (now (out .entry)) (now (out .exit)) 0 r (newFile (now (file .entry)) pair) ⌝ }
 {
     let labels = section_offset(file, 0);
     let rule = section_offset(file, 2);
@@ -63,16 +62,21 @@ fn labels_left(n: usize, removed: usize) -> usize
     if removed < n { n - 1 } else { n }
 }
 
-// Merges a pair, if there is room.
-pub fn merge_pair(file: &[u8], pair: Pair, n: usize, out: &mut [u8]) -> Written
-    requires { ⌜ Named (now file) pair n ⌝ }
+// Merges a pair of an accepted case, whose steps have been read into rows, if there is room.
+pub fn merge_pair(
+    file: &[u8],
+    case: Case,
+    pair: Pair,
+    before: [u16; 128],
+    out: &mut [u8],
+) -> Written
+    requires { ⌜ Named (now file) (caseCounts case) pair before ⌝ }
     ensures { λ r. ⌜ writtenReply r ≡ counted (fitting (now (file .entry)) pair (length (now (out .entry)))) ⌝ }
     ensures { λ r. ⌜ now (out .exit) ≡ written (fitting (now (file .entry)) pair (length (now (out .entry)))) (now (out .entry)) ⌝ }
 {
-    let before = step_rows(file, false);
     let rows = merged_rows(before, pair);
     let set = merged_starts(file, pair);
-    let labels = labels_left(n, pair.removed);
+    let labels = labels_left(case.states(), pair.removed);
     let steps = 3 * count(rows);
     let rule = section_size(file, 2);
     let starts = merged_starts::count(set);

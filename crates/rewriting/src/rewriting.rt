@@ -1,24 +1,22 @@
 // Rewriting: a law at a node, if its shape is there, and the new case file.
-ghost use mathlib.Core.Path.{_≡_};
 ghost use Rattle.case_model.specs.Limits.{standard};
-ghost use Rattle.case_model.specs.Rows.{sound, refusals};
+ghost use Rattle.case_model.specs.Replies.{Accepted};
 ghost use Rattle.case_model.specs.Book.{rewrites};
 ghost use Rattle.case_model.specs.Run.{Promised};
-ghost use Rattle.case_file.specs.EnumNumbers.{writtenReply};
+ghost use Rattle.case_file.specs.EnumNumbers.{caseCounts, writtenReply};
 use case_file::Case;
+use case_file::Checked;
 use case_file::Reason;
-use case_file::Vetted;
 use case_file::Written;
 use case_file::refused;
-use case_reader::node_count;
 use law_shapes::shape_at;
 use rewritten_file::Plan;
-use rewritten_file::new_size;
+use rewritten_file::new_sizes;
 use rewritten_file::write_new;
 
-// Rewrites an accepted file.
-fn rewrite_accepted(file: &[u8], law: usize, node: usize, out: &mut [u8]) -> Written
-    requires { ⌜ refusals standard (now file) ≡ sound ⌝ }
+// Rewrites an accepted file, whose case this is.
+fn rewrite_accepted(file: &[u8], case: Case, law: usize, node: usize, out: &mut [u8]) -> Written
+    requires { ⌜ Accepted standard (now file) (caseCounts case) ⌝ }
     ensures { λ r. ⌜ Promised (now (file .entry)) (record {
       asked = rewrites law node;
       before = now (out .entry);
@@ -26,7 +24,7 @@ fn rewrite_accepted(file: &[u8], law: usize, node: usize, out: &mut [u8]) -> Wri
       told = writtenReply r;
     }) ⌝ }
 {
-    let m = node_count(file);
+    let m = case.nodes();
     if m <= node {
         return refused(Reason::Shape);
     }
@@ -44,11 +42,11 @@ fn rewrite_accepted(file: &[u8], law: usize, node: usize, out: &mut [u8]) -> Wri
         j: node,
         nodes,
     };
-    if out.len() < new_size(file, plan) {
+    let sizes = new_sizes(file, plan);
+    if out.len() < sizes.whole {
         return refused(Reason::Room);
     }
-    let size = write_new(file, plan, out);
-    Written::Bytes(size)
+    Written::Bytes(write_new(file, plan, sizes, out))
 }
 
 // Rewrites node `node` by law `law`, and writes the new case.
@@ -60,9 +58,9 @@ pub fn rewrite(file: &[u8], law: usize, node: usize, out: &mut [u8]) -> Written
       told = writtenReply r;
     }) ⌝ }
 {
-    let vetted = Case::new(file);
-    let Vetted::Refused(refusal) = vetted else {
-        return rewrite_accepted(file, law, node, out);
+    let checked = Case::new(file);
+    let Checked::Case(case) = checked else {
+        return Written::Refused(checked.refusal());
     };
-    Written::Refused(refusal)
+    rewrite_accepted(file, case, law, node, out)
 }

@@ -1,12 +1,12 @@
 -- The new file, part by part: how long it is, what its parts are, and that they lie there once they are laid one after the other.
 -- Labels, steps and start states are sections of the old file; the steps are whole triples, because no refusal was found.
-use Prim.Native.Nat.{ℕ, _+_, _*_, _/_, _≤_, _<_}
+use Prim.Native.Nat.{ℕ, _+_, _*_, _≤_, _<_}
 use mathlib.Core.List.{List, [], _∷_}
-use mathlib.Core.Path.{_≡_, refl, sym, ap, _∙_}
+use mathlib.Core.Path.{_≡_, ap, _∙_}
 use native.Mathlib.Omega.{arith}
 use lib.ListN.{length, length-append}
 use Rattle.case_model.specs.Areas.{Laid}
-use Rattle.case_model.specs.Bytes.{listOf, offset, size, section, pairs}
+use Rattle.case_model.specs.Bytes.{listOf, offset, section, pairs}
 use Rattle.case_model.specs.Case.{triples, write, flat, at}
 use Rattle.case_model.specs.Kinds.{Triple}
 use Rattle.case_model.specs.Limits.{sections, standard}
@@ -22,18 +22,19 @@ use Rattle.case_model.proofs.Accepting.{write-short}
 use Rattle.case_writer.specs.Parts.{part}
 use Rattle.case_writer.proofs.Parts.{laid-triple}
 use Rattle.case_writer.proofs.Packing.{ended, next, laid-packed}
-use Rattle.rewritten_file.specs.Plans.{renewed, ruleBytes, Planned}
+use Rattle.rewritten_file.specs.Plans.{renewed, ruleBytes, Planned, Measured}
 use Rattle.rewritten_file.specs.declared.plan.Plan.{Plan}
+use Rattle.rewritten_file.specs.declared.plan.Sizes.{Sizes}
 use Rattle.rewritten_file.proofs.Renewed.{valid}
 
 -- ---- the parts that stay
-pub section-bytes : (f : List ℕ) (k : ℕ) → part f (offset f k) (size f k) ≡ section f k
+pub section-bytes : (f : List ℕ) (k : ℕ) → part f (offset f k) (length (section f k)) ≡ section f k
 unfolding part section
-section-bytes f k = refl
+section-bytes f k = ap (part f (offset f k)) (section-length f k)
 
 -- each ends within the old file
-pub section-within : (f : List ℕ) → refusals standard f ≡ sound → (k : ℕ) → k < sections → offset f k + size f k ≤ length f
-section-within f ok = within standard f (accepted-pairs standard f ok)
+pub section-within : (f : List ℕ) → refusals standard f ≡ sound → (k : ℕ) → k < sections → offset f k + length (section f k) ≤ length f
+section-within f ok k h = omega (arith, within standard f (accepted-pairs standard f ok) k h, section-length f k)
 
 -- ---- the new nodes, laid one by one
 -- the first i of them are laid, up to `end`
@@ -67,28 +68,30 @@ module _ {f : List ℕ} {p : Plan} {w v : List ℕ} {base end i : ℕ} (k : Node
 
 -- ---- the whole file
 module _ {f : List ℕ} {p : Plan} (h : Planned f p) where
-  pub new-length : length (write (renewed f p)) ≡ 4 * sections + size f 0 + size f 1 + 3 * p .nodes + 1 + size f 3
+  pub rule-length : length (ruleBytes (renewed f p)) ≡ 3 * p .nodes + 1
+  rule-length = simp (length-append, length-flat) (omega (arith, h .nodes))
+
+  steps-are : section f 1 ≡ flat (triples f 1)
+  steps-are = steps-bytes f (steps-whole standard f (h .accepted))
+
+  pub new-length : length (write (renewed f p))
+      ≡ 4 * sections + length (section f 0) + length (section f 1) + length (ruleBytes (renewed f p)) + length (section f 3)
   unfolding rewrite
-  new-length =
-      let s : length (triples f 1) ≡ size f 1 / 3 = length-listOf (size f 1 / 3) _ in
-      omega (arith, length-write (renewed f p), section-length f 0, section-length f 3, steps-whole standard f (h .accepted), h .nodes)
+  new-length = omega (arith, length-write (renewed f p), ap length steps-are, length-flat (triples f 1), rule-length, h .nodes)
 
   -- so its pairs are numbers of two bytes
   pub new-short : length (write (renewed f p)) < 65536
   new-short = omega (arith, write-short (renewed f p) (valid h))
 
-  pub rule-length : 3 * p .nodes + 1 ≡ length (ruleBytes (renewed f p))
-  rule-length = simp (length-append, length-flat) (omega (arith, h .nodes))
-
   -- its head, two sections that stay, the rule and the section behind it, laid one after the other
-  pub laid-new : {n₀ n₁ n₃ : ℕ} → n₀ ≡ size f 0 → n₁ ≡ size f 1 → n₃ ≡ size f 3 → {w a b c d u : List ℕ} {at₀ at₁ at₂ at₃ end : ℕ}
-      → Laid w a 0 at₀ (pairs (4 * sections) (n₀ ∷ n₁ ∷ (3 * p .nodes + 1) ∷ n₃ ∷ [])) → Laid a b at₀ at₁ (section f 0) → Laid b c at₁ at₂ (section f 1)
-      → Laid c d at₂ at₃ (ruleBytes (renewed f p)) → Laid d u at₃ end (section f 3) → Laid w u 0 end (write (renewed f p))
+  pub laid-new : {z : Sizes} → Measured f p z → {w a b c d u : List ℕ} {at₀ at₁ at₂ at₃ end : ℕ}
+      → Laid w a 0 at₀ (pairs (4 * sections) (z .labels ∷ z .steps ∷ z .rule ∷ z .starts ∷ [])) → Laid a b at₀ at₁ (section f 0)
+      → Laid b c at₁ at₂ (section f 1) → Laid c d at₂ at₃ (ruleBytes (renewed f p)) → Laid d u at₃ end (section f 3)
+      → Laid w u 0 end (write (renewed f p))
   unfolding write rewrite
-  laid-new {n₀} {n₁} {n₃} q₀ q₁ q₃ head labels steps rule starts =
-      let s : section f 1 ≡ flat (triples f 1) = steps-bytes f (steps-whole standard f (h .accepted)) in
-      laid-packed (n₀ ∷ n₁ ∷ (3 * p .nodes + 1) ∷ n₃ ∷ []) head
-      (next (q₀ ∙ sym (section-length f 0)) labels
-      (next (q₁ ∙ sym (section-length f 1) ∙ ap length s) (laid-as s steps)
-      (next rule-length rule
-      (next (q₃ ∙ sym (section-length f 3)) starts ended))))
+  laid-new {z} m head labels steps rule starts =
+      laid-packed (z .labels ∷ z .steps ∷ z .rule ∷ z .starts ∷ []) head
+      (next (m .labels) labels
+      (next (m .steps ∙ ap length steps-are) (laid-as steps-are steps)
+      (next (m .rule) rule
+      (next (m .starts) starts ended))))

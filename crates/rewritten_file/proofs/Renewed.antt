@@ -3,17 +3,17 @@
 use Prim.Native.Nat.{ℕ, zero, suc, _+_, _-_, _*_, _/_, _≤_, _<_}
 use mathlib.Core.List.{List, [], _∷_}
 use mathlib.Core.Path.{_≡_, refl, sym, ap, _∙_, subst}
-use native.Mathlib.Decide.{decLt}
 use native.Mathlib.Omega.{arith}
 use lib.ListN.{length, getD}
 use lib.Seq.{getD-take, length-take-le}
 use Rattle.case_model.specs.Limits.{standard}
-use Rattle.case_model.specs.Bytes.{byteAt, offset, size, section}
+use Rattle.case_model.specs.Bytes.{byteAt, size, section}
 use Rattle.case_model.specs.Case.{Case, tripleAt, read, write, at}
 use Rattle.case_model.specs.Kinds.{Triple}
 use Rattle.case_model.specs.Rewriting.{swap, renamed, rewrite}
 use Rattle.case_model.specs.Valid.{Valid}
-use Rattle.case_model.proofs.Lists.{length-listOf, getD-listOf, getD-listOf-end}
+use Rattle.case_model.proofs.Lists.{length-listOf, getD-listOf}
+use Rattle.case_model.proofs.SectionBytes.{section-small}
 use Rattle.case_model.proofs.Valid.{accepted-valid}
 use Rattle.case_model.proofs.Codec.{read-write}
 use Rattle.case_model.proofs.Written.{write-bytes}
@@ -49,13 +49,6 @@ pub placed-nodes : (c : Case) (j : ℕ) (s : Shape) → s .added ≤ 2 → (g : 
 placed-nodes c j s h g w = omega (arith, placed-length s h, length-new c j (placed s) g w)
 
 -- ---- what is read from bytes
-section-small : (f : List ℕ) → ((i : ℕ) → byteAt f i < 256) → (k i : ℕ) → byteAt (section f k) i < 256
-unfolding section
-section-small f h k i = elim (decLt i (size f k)) [
-  | yes l ↦ rw (getD-listOf (size f k) (λ i. byteAt f (offset f k + i)) 0 i l) (h (offset f k + i))
-  | no l ↦ rw (getD-listOf-end (size f k) (λ i. byteAt f (offset f k + i)) 0 i (omega arith)) (omega arith)
-]
-
 node-small : (f : List ℕ) → ((i : ℕ) → byteAt f i < 256) → (i : ℕ) → i < length (read f .nodes)
     → (t : code.Triple) → triple t ≡ at (read f .nodes) i → ByteTriple t
 node-small f h i l t e =

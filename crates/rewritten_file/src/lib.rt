@@ -1,6 +1,7 @@
-// Internal: the file that a law makes of a file, its length and its bytes; serves rewriting.
+// Internal: the file that a law makes of a file, its lengths and its bytes; serves rewriting.
 mod plan;
 
 pub use plan::Plan;
-pub use plan::new_size;
+pub use plan::Sizes;
+pub use plan::new_sizes;
 pub use plan::write_new;

@@ -3,14 +3,14 @@ ghost use mathlib.Core.Path.{_≡_};
 ghost use Prim.Native.Nat.{_+_, _*_, _≤_, _<_};
 ghost use lib.ListN.{length};
 ghost use Rattle.case_model.specs.Areas.{Laid};
-ghost use Rattle.case_model.specs.Bytes.{size, section};
+ghost use Rattle.case_model.specs.Bytes.{section};
 ghost use Rattle.case_model.specs.Case.{at, flat, write};
 ghost use Rattle.case_model.specs.Limits.{sections, standard};
 ghost use Rattle.case_model.specs.Rewriting.{renamed};
 ghost use Rattle.case_model.specs.Rows.{sound, refusals};
 ghost use Rattle.case_reader.specs.Read.{triple};
 ghost use Rattle.law_shapes.specs.Shapes.{placed, named};
-ghost use Rattle.rewritten_file.specs.Plans.{ByteTriple, Planned, renewed, ruleBytes};
+ghost use Rattle.rewritten_file.specs.Plans.{ByteTriple, Planned, Measured, renewed, ruleBytes};
 use case_reader::Kind;
 use case_reader::SECTIONS;
 use case_reader::Triple;
@@ -93,15 +93,31 @@ fn new_node(file: &[u8], plan: Plan, i: usize) -> Triple
     rename(shape, j, node(file, i - shape.added))
 }
 
-// How many bytes the new file has.
-pub fn new_size(file: &[u8], plan: Plan) -> usize
+// How many bytes each section of the new file has, and the whole file.
+pub struct Sizes {
+    labels: usize,
+    steps: usize,
+    rule: usize,
+    starts: usize,
+    pub whole: usize,
+}
+
+pub fn new_sizes(file: &[u8], plan: Plan) -> Sizes
     requires { ⌜ Planned (now file) plan ⌝ }
-    ensures { λ r. ⌜ r ≡ length (write (renewed (now (file .entry)) plan)) ⌝ }
+    ensures { λ r. ⌜ Measured (now (file .entry)) plan r ⌝ }
 {
     let labels = section_size(file, 0);
     let steps = section_size(file, 1);
+    let rule = 3 * plan.nodes + 1;
     let starts = section_size(file, 3);
-    4 * SECTIONS + labels + steps + 3 * plan.nodes + 1 + starts
+    let whole = 4 * SECTIONS + labels + steps + rule + starts;
+    Sizes {
+        labels,
+        steps,
+        rule,
+        starts,
+        whole,
+    }
 }
 
 // Writes the new nodes.
@@ -126,30 +142,24 @@ fn put_rule(file: &[u8], plan: Plan, out: &mut [u8], base: usize) -> usize
     put_byte(name(plan.shape, plan.j, root(file)), out, end)
 }
 
-// Writes section k of the old file as it was.
-fn put_section(file: &[u8], k: usize, out: &mut [u8], base: usize) -> usize
-    requires { ⌜ (refusals standard (now file) ≡ sound) × (k < sections) × (base + size (now file) k ≤ length (now out)) ⌝ }
+// Writes section k of the old file, which has so many bytes, as it was.
+fn put_section(file: &[u8], k: usize, count: usize, out: &mut [u8], base: usize) -> usize
+    requires { ⌜ (refusals standard (now file) ≡ sound) × (k < sections) × (count ≡ length (section (now file) k)) × (base + count ≤ length (now out)) ⌝ }
     ensures { λ r. ⌜ Laid (now (out .entry)) (now (out .exit)) base r (section (now (file .entry)) k) ⌝ }
 {
     let start = section_offset(file, k);
-    let count = section_size(file, k);
     put_part(file, start, count, out, base)
 }
 
 // Writes the new file.
-pub fn write_new(file: &[u8], plan: Plan, out: &mut [u8]) -> usize
-    requires { ⌜ Planned (now file) plan × (length (write (renewed (now file) plan)) ≤ length (now out)) ⌝ }
+pub fn write_new(file: &[u8], plan: Plan, sizes: Sizes, out: &mut [u8]) -> usize
+    requires { ⌜ Planned (now file) plan × Measured (now file) plan sizes × (sizes .whole ≤ length (now out)) ⌝ }
     ensures { λ r. ⌜ Laid (now (out .entry)) (now (out .exit)) 0 r (write (renewed (now (file .entry)) plan)) ⌝ }
 {
-    let sizes = [
-        section_size(file, 0),
-        section_size(file, 1),
-        3 * plan.nodes + 1,
-        section_size(file, 3),
-    ];
-    let labels = put_pairs(&sizes, out);
-    let steps = put_section(file, 0, out, labels);
-    let rule = put_section(file, 1, out, steps);
+    let lengths = [sizes.labels, sizes.steps, sizes.rule, sizes.starts];
+    let labels = put_pairs(&lengths, out);
+    let steps = put_section(file, 0, sizes.labels, out, labels);
+    let rule = put_section(file, 1, sizes.steps, out, steps);
     let starts = put_rule(file, plan, out, rule);
-    put_section(file, 3, out, starts)
+    put_section(file, 3, sizes.starts, out, starts)
 }

@@ -1,13 +1,13 @@
--- Sets as numbers, beyond the laws of flc: when | and ^ give 0, one state more, and the other states.
+-- Sets as numbers, beyond the laws of flc: when | and ^ give 0, one state more, and one left out.
 -- By induction on the state: the lowest digit, then the half.
 use Prim.Native.Nat.{ℕ, zero, suc, _+_, _-_, _*_, _/_, _%_, _^_, _<_}
-use mathlib.Core.Bool.{false, not}
+use mathlib.Core.Bool.{false}
 use mathlib.Core.Path.{_≡_, sym, ap, ap₂, _∙_}
 use native.Mathlib.Decide.{ℕ-discrete}
 use native.Mathlib.Nat.{le-of-suc-le-suc, not-suc-le-zero}
 use native.Mathlib.Omega.{arith}
 use borrow.Author.Tests.{eq-eqb, ne-eqb, eqb-false}
-use lib.Dec.{eqb}
+use lib.Dec.{eqb, eqb·suc-suc}
 use lib.Bits.{bitOr, bitXor, or-add-and, xor-add-and, and-le-l, and-le-r, xor-self}
 use lib.Pow.{pow-pos, pow-mono}
 use Rattle.flc.specs.Sets.{either, has}
@@ -21,12 +21,6 @@ xor-zero a b e = omega (arith, xor-add-and a b, and-le-l a b, and-le-r a b)
 
 pub zero-or-xor : (d a b : ℕ) → d ≡ 0 → a ≡ b → bitOr d (bitXor a b) ≡ 0
 zero-or-xor d a b p q = rw (p, q, xor-self)
-
-eqb-suc : (t s : ℕ) → eqb (suc t) (suc s) ≡ eqb t s
-eqb-suc t s = elim (ℕ-discrete t s) [
-  | yes e ↦ eq-eqb (suc t) (suc s) (ap suc e) ∙ sym (eq-eqb t s e)
-  | no e ↦ ne-eqb (suc t) (suc s) (λ z. e (omega arith)) ∙ sym (ne-eqb t s e)
-]
 
 -- a set with one state more
 pub has-add : (s t x : ℕ) → has x s ≡ false → has (x + 2 ^ s) t ≡ either (eqb t s) (has x t)
@@ -44,19 +38,7 @@ has-add (suc s) zero x h =
 has-add (suc s) (suc t) x h =
     let e : (x + 2 ^ suc s) / 2 ≡ x / 2 + 2 ^ s = omega arith in
     has-suc (x + 2 ^ suc s) t ∙ ap (λ y. has y t) e ∙ has-add s t (x / 2) (sym (has-suc x s) ∙ h)
-    ∙ ap₂ either (sym (eqb-suc t s)) (sym (has-suc x t))
-
--- the other states
-pub has-rest : (n p s : ℕ) → p < 2 ^ n → s < n → has (2 ^ n - 1 - p) s ≡ not (has p s)
-has-rest zero p s h k = absurd (not-suc-le-zero k)
-has-rest (suc n) p zero h k =
-    has-zero (2 ^ suc n - 1 - p) ∙ (elim (ℕ-discrete (p % 2) 1) [
-      | yes e ↦ ne-eqb ((2 ^ suc n - 1 - p) % 2) 1 (λ z. omega arith) ∙ ap not (sym (eq-eqb (p % 2) 1 e))
-      | no e ↦ eq-eqb ((2 ^ suc n - 1 - p) % 2) 1 (omega arith) ∙ ap not (sym (ne-eqb (p % 2) 1 e))
-    ]) ∙ ap not (sym (has-zero p))
-has-rest (suc n) p (suc s) h k =
-    let e : (2 ^ suc n - 1 - p) / 2 ≡ 2 ^ n - 1 - p / 2 = omega arith in
-    has-suc (2 ^ suc n - 1 - p) s ∙ ap (λ y. has y s) e ∙ has-rest n (p / 2) s (omega arith) (le-of-suc-le-suc k) ∙ ap not (sym (has-suc p s))
+    ∙ ap₂ either (sym (eqb·suc-suc t s)) (sym (has-suc x t))
 
 -- a set of states below s, with all states above s
 pub has-gap : (s n y : ℕ) → s < n → y < 2 ^ s → has (2 ^ n - 2 ^ s * 2 + y) s ≡ false

@@ -1,27 +1,16 @@
 -- The states with a step of a group to a state, gathered action by action: one action more is one set more.
-use Prim.Native.Nat.{ℕ, _+_, _*_, _^_, _<_}
-use mathlib.Core.Bool.{Bool, true, false, cond}
+use Prim.Native.Nat.{ℕ, _+_, _*_, _<_}
+use mathlib.Core.Bool.{cond}
 use mathlib.Core.Path.{_≡_, refl, sym, ap, ap₂, _∙_}
 use native.Mathlib.Numerals.{add-one}
 use lib.Bits.{bitOr}
-use lib.Pow.{pow-pos}
 use Rattle.flc.specs.Sets.{both, either, forSome, has, setOf}
 use Rattle.flc.specs.Formula.{actions, stepsBy}
-use Rattle.flc.proofs.Masks.{has-setOf, setOf-lt, or-setOf, setOf-ext, setOf-none, has-empty}
+use Rattle.flc.proofs.Masks.{has-setOf, setOf-lt, or-setOf, setOf-ext, setOf-none, given-has, given-small}
 use Rattle.case_model.specs.Limits.{mostStates}
 use Rattle.case_plan.specs.Plans.{Plan, Sized, tableOf}
 use Rattle.tables.specs.Tables.{sourcesBy}
 use Rattle.tables.proofs.Sizes.{sources-are}
-
--- ---- a set, if the test b holds
-given-has : (b : Bool) (y s : ℕ) → both b (has y s) ≡ has (cond b y 0) s
-unfolding both
-given-has true y s = refl
-given-has false y s = sym (has-empty s)
-
-given-small : (b : Bool) (y n : ℕ) → y < 2 ^ n → cond b y 0 < 2 ^ n
-given-small true y n h = h
-given-small false y n h = pow-pos n
 
 -- ---- the states with a step to t by the actions below k that are in g
 abbrev pub sourcesBelow : Plan → ℕ → ℕ → ℕ → ℕ

@@ -15,13 +15,12 @@ use Rattle.flc.specs.Functions.{Fun}
 use Rattle.flc.specs.Formula.{Table, modal, stepsBy, meanAtom}
 use Rattle.flc.proofs.Tests.{bool-ext, both-left, both-right, both-mk, either-left, either-right, either-use}
 use Rattle.flc.proofs.Tests.{implies-use, implies-mk, forAll-use, forAll-mk, forSome-use, forSome-mk}
-use Rattle.flc.proofs.Masks.{has-setOf, setOf-lt, set-ext, has-and, or-setOf, setOf-ext, has-empty, has-beyond}
+use Rattle.flc.proofs.Masks.{has-setOf, setOf-lt, set-ext, has-and, or-setOf, setOf-ext, has-empty, has-beyond, has-rest, has-all}
 use Rattle.case_model.specs.Areas.{Filled, from}
 use Rattle.case_model.proofs.Filling.{filled-ext, filled-up, filled-down, filled-one}
 use Rattle.case_plan.specs.Plans.{Plan, Sized, tableOf}
 use Rattle.tables.specs.Tables.{sourcesBy, edge}
-use Rattle.tables.proofs.Digits.{has-add, has-rest, has-gap}
-use Rattle.tables.proofs.Sizes.{has-all}
+use Rattle.tables.proofs.Digits.{has-add, has-gap}
 
 -- ---- one state more in x, under a test q
 module _ (n s x : ℕ) (l : s < n) (out : has x s ≡ false) (q : ℕ → Bool) where

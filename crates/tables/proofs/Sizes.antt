@@ -1,35 +1,16 @@
--- How large the sets of a plan are; the set of all states, and the other states; and what the state table of a plan has, as sets.
+-- How large the sets of a plan are, and what its state table has, as sets.
 -- A set of a plan is below its size, so that it is the set of the states which it has.
-use Prim.Native.Nat.{ℕ, _+_, _-_, _*_, _^_, _≤_, _<_}
-use mathlib.Core.Bool.{Bool, true, not}
-use mathlib.Core.Path.{_≡_, sym, ap, _∙_, subst}
+use Prim.Native.Nat.{ℕ, _+_, _*_, _≤_, _<_}
+use mathlib.Core.Path.{_≡_, sym, _∙_}
 use native.Mathlib.Omega.{arith}
 use borrow.Author.Tests.{lt-ltb}
-use lib.Dec.{T}
 use lib.Pow.{pow-pos, pow-mono}
 use Rattle.flc.specs.Sets.{both, has, setOf}
 use Rattle.flc.specs.Formula.{actions}
-use Rattle.flc.proofs.Masks.{has-setOf, setOf-lt, setOf-ext, setOf-has, set-ext, has-empty}
+use Rattle.flc.proofs.Masks.{has-setOf, setOf-ext, setOf-has}
 use Rattle.case_model.specs.Limits.{mostStates, propositions}
-use Rattle.case_model.proofs.Tests.{is-true}
 use Rattle.case_plan.specs.Plans.{Plan, Sized, tableOf}
-use Rattle.tables.proofs.Digits.{has-rest}
 
--- ---- any n states
-pub has-all : (n s : ℕ) → s < n → T (has (2 ^ n - 1) s)
-has-all n s h =
-    let e : 2 ^ n - 1 - 0 ≡ 2 ^ n - 1 = omega arith in
-    subst T (sym (ap (λ x. has x s) (sym e) ∙ has-rest n 0 s (pow-pos n) h ∙ ap not (has-empty s))) tt
-
-pub set-all : (n : ℕ) → setOf n (λ s. true) ≡ 2 ^ n - 1
-set-all n = set-ext n _ _ (setOf-lt n _) (omega (arith, pow-pos n)) (λ s k. has-setOf n _ s k ∙ sym (is-true _ (has-all n s k)))
-
-pub set-rest : (n : ℕ) (q : ℕ → Bool) → 2 ^ n - 1 - setOf n q ≡ setOf n (λ s. not (q s))
-set-rest n q =
-    set-ext n _ _ (omega (arith, pow-pos n)) (setOf-lt n _)
-    (λ s k. has-rest n (setOf n q) s (setOf-lt n q) k ∙ ap not (has-setOf n q s k) ∙ sym (has-setOf n _ s k))
-
--- ---- a plan
 module _ {p : Plan} (z : Sized p) where
   pub size-some : (0 < p .size) × (p .size ≤ 65536)
   size-some = omega (arith, z .size, pow-pos (p .states), pow-mono {i = p .states} {j = mostStates} (z .few))

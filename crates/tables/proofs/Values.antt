@@ -5,7 +5,7 @@ use mathlib.Core.Bool.{Bool}
 use mathlib.Core.List.{List}
 use mathlib.Core.Path.{_≡_, sym, ap, ap₂, _∙_, subst}
 use Rattle.flc.specs.Formula.{modal, meanAtom}
-use Rattle.flc.proofs.Masks.{setOf-none}
+use Rattle.flc.proofs.Masks.{setOf-none, set-all, set-rest}
 use Rattle.case_model.specs.Areas.{Filled}
 use Rattle.case_model.proofs.Filling.{filled-ext}
 use Rattle.case_reader.specs.declared.kinds.Atom.{Atom}
@@ -15,7 +15,7 @@ use Rattle.case_reader.specs.NodeKinds.{atomWith, opOf}
 use Rattle.case_reader.proofs.Knowing.{shifted}
 use Rattle.case_plan.specs.Plans.{Plan, Sized}
 use Rattle.tables.specs.Tables.{AtomFilled, OperatorFilled}
-use Rattle.tables.proofs.Sizes.{set-all, set-rest, props-are}
+use Rattle.tables.proofs.Sizes.{props-are}
 
 -- ---- atoms
 module _ {p : Plan} (z : Sized p) {w v : List ℕ} (a : ℕ) {base : ℕ} {x : Atom} where

@@ -6,5 +6,6 @@ mod words;
 pub use fill::fill_atom;
 pub use fill::fill_two;
 pub use words::advance;
+pub use words::clear;
 pub use words::constant;
 pub use words::copy;

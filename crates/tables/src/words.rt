@@ -1,6 +1,7 @@
 // Tables in the work area. A table is `count` words from a base on; each function fills one from others, entry by entry.
+ghost use mathlib.Core.Path.{_≡_};
 ghost use Prim.Native.Nat.{ℕ, _+_, _≤_, _<_};
-ghost use lib.ListN.{length};
+ghost use lib.ListN.{length, replicate};
 ghost use lib.Bits.{bitOr, bitAnd};
 ghost use Rattle.tables.specs.Tables.{Advanced};
 ghost use Rattle.case_model.specs.Areas.{Filled, from};
@@ -13,6 +14,14 @@ pub fn constant(work: &mut [u16], count: usize, c: usize, v: u16)
     for i in 0..count {
         work[c + i] = v;
     }
+}
+
+// Nothing of an answer's work is left in the area.
+pub fn clear(work: &mut [u16])
+    ensures { λ _. ⌜ now (work .exit) ≡ replicate (length (now (work .entry))) 0 ⌝ }
+{
+    let words = work.len();
+    constant(work, words, 0, 0);
 }
 
 // Each set for itself.

@@ -14,12 +14,6 @@ vet-requires c κs = search needs
 enum-known-vetted : tie.Need-enum-known-vetted
 enum-known-vetted c = search needs
 
-states-requires : tie.Need-states-requires
-states-requires c κs = search needs
-
-nodes-requires : tie.Need-nodes-requires
-nodes-requires c κs = search needs
-
 -- vetting's answer fits
 fits : (c : tie.After-vet) → Fits Few (vettedReply (c .vet .result))
 fits c =
@@ -31,10 +25,10 @@ few : (c : tie.After-vetted) → Few (countsOf (c .vetted .given .0 .0))
 few c = subst (λ v. Fits Few (vettedReply v)) (c .vetted .given .1) (fits (c .before .before))
 
 mul-result : tie.Need-mul-result
-mul-result c = omega (arith, c .nodes .ensures, few (c .before .before .before))
+mul-result c = omega (arith, few (c .before .before))
 
 add-result : tie.Need-add-result
-add-result c = omega (arith, c .nodes .ensures, c .before .states .ensures, few (c .before .before .before))
+add-result c = omega (arith, few (c .before .before .before))
 
 enum-known-vetted-2 : tie.Need-enum-known-vetted-2
 enum-known-vetted-2 c = search needs
@@ -45,7 +39,7 @@ refused-requires c κs = let v = c .before in subst (λ v. Fits Few (vettedReply
 returns : tie.Need-returns
 returns c =
     let v = c .before .before .before in
-    rw (← v .before .before .vet .ensures, v .vetted .given .1, c .nodes .ensures, c .before .states .ensures) refl
+    rw (← v .before .before .vet .ensures, v .vetted .given .1) refl
 
 returns-2 : tie.Need-returns-2
 returns-2 c =
@@ -58,8 +52,6 @@ hoidrul-vet-spec =
     (tie.spec
     vet-requires
     enum-known-vetted
-    states-requires
-    nodes-requires
     mul-result
     add-result
     enum-known-vetted-2

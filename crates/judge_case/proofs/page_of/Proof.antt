@@ -5,11 +5,12 @@ use native.Mathlib.Omega.{arith}
 use Rattle.case_model.specs.Case.{read}
 use Rattle.case_model.specs.Judging.{judging}
 use Rattle.case_model.specs.Run.{inAnswer, everyStart}
+use Rattle.case_model.proofs.Judged.{judged-few}
 use Rattle.judge.specs.EnumNumbers.{judgedReply}
 use Rattle.judge.specs.declared.entry.Judged.{Judged}
 use Rattle.judge_case.specs.Printed.{printed, page}
 use Rattle.judge_case.proofs.Texts.{shows-as}
-use Rattle.judge_case.proofs.Pages.{judged-few, judged-page}
+use Rattle.judge_case.proofs.Pages.{judged-page}
 use borrow.Author.Needs.{needs}
 use Rattle.judge_case.proofs.page_of.Statement.{statement}
 use Rattle.judge_case.proofs.page_of.Tie as tie
@@ -55,7 +56,7 @@ verdict-page-requires c κs =
     let at-match = at-found .before in
     let at-judge = judge-of (at-match .before) in
     let reply = sym (ap judgedReply (at-found .judged .given .1)) ∙ at-judge .judge .ensures .0 in
-    omega (arith, count-of at-judge .state-count .ensures .is, judged-few _ _ _ reply)
+    omega (arith, count-of at-judge .state-count .ensures .is, judged-few _ _ _ (sym reply))
 
 enum-known-judged-2 : tie.Need-enum-known-judged-2
 enum-known-judged-2 c = search needs

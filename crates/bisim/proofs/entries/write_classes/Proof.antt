@@ -9,29 +9,30 @@ use Rattle.bisim.proofs.Answering.{served-within, classing-short, class
 use Rattle.bisim.proofs.entries.write_classes.Statement.{statement}
 use Rattle.bisim.proofs.entries.write_classes.Tie as tie
 
-state-count-requires : tie.Need-state-count-requires
-state-count-requires c κs = search needs
+states-requires : tie.Need-states-requires
+states-requires c κs = search needs
 
 served-requires : tie.Need-served-requires
 served-requires c κs = search needs
 
+step-rows-requires : tie.Need-step-rows-requires
+step-rows-requires c κs = search needs
+
 draw-requires : tie.Need-draw-requires
-draw-requires c κs =
-    let c3 = c .before .before .before in
-    let start = c3 .before in
-    accepted-valid standard _ (start .pre)
+draw-requires c κs = search needs
 
 alike-rows-requires : tie.Need-alike-rows-requires
 alike-rows-requires c κs = search needs
 
 write-requires : tie.Need-write-requires
 write-requires c κs =
-    let at-served = c .before .before .before in
-    let at-state-count = at-served .before in
-    let start = at-state-count .before .before .before in
-    let n = at-state-count .state-count in
+    let at-draw = c .before .before in
+    let at-served = at-draw .before .before in
+    let at-states = at-served .before in
+    let start = at-states .before .before .before in
+    let n = at-states .states in
     let w = served-within (n .result) (length (start .args .out .now)) (at-served .served .ensures) in
-    (omega (arith, w .0, n .ensures .is, accepted-valid standard _ (start .pre) .table .few), w .1)
+    (omega (arith, w .0, n .ensures, start .pre .states, accepted-valid standard _ (start .pre .rows) .table .few), w .1)
 
 refused-requires : tie.Need-refused-requires
 refused-requires c κs = search needs
@@ -45,11 +46,11 @@ returns c =
     let at-write = at-if1 .before .before .before in
     let at-alike-rows = at-write .before .before in
     let at-draw = at-alike-rows .before in
-    let at-served = at-draw .before in
-    let at-state-count = at-served .before in
-    let start = at-state-count .before .before .before in
+    let at-served = at-draw .before .before in
+    let at-states = at-served .before in
+    let start = at-states .before .before .before in
     let (count, area) = classing-short _ _ (start .pre) (at-draw .draw .ensures) (at-alike-rows .alike-rows .ensures)
-    (at-state-count .state-count .ensures .is) (at-served .served .ensures) (at-write .write .ensures) (at-if1 .if1 .taken) in
+    (at-states .states .ensures) (at-served .served .ensures) (at-write .write .ensures) (at-if1 .if1 .taken) in
     (c .refused .ensures ∙ count, area)
 
 same-length-2 : tie.Need-same-length-2
@@ -60,18 +61,19 @@ returns-2 c =
     let at-write = c .before .before .before in
     let at-alike-rows = at-write .before .before in
     let at-draw = at-alike-rows .before in
-    let at-served = at-draw .before in
-    let at-state-count = at-served .before in
-    let start = at-state-count .before .before .before in
+    let at-served = at-draw .before .before in
+    let at-states = at-served .before in
+    let start = at-states .before .before .before in
     classing-whole _ _ (start .pre) (at-draw .draw .ensures) (at-alike-rows .alike-rows .ensures)
-    (at-state-count .state-count .ensures .is) (at-served .served .ensures) (at-write .write .ensures) (c .if1 .left)
+    (at-states .states .ensures) (at-served .served .ensures) (at-write .write .ensures) (c .if1 .left)
 
 pub write-classes-spec : {M : Type 1} → statement M
 write-classes-spec =
     tie.close
     (tie.spec
-    state-count-requires
+    states-requires
     served-requires
+    step-rows-requires
     draw-requires
     alike-rows-requires
     write-requires

@@ -5,31 +5,34 @@ use lib.Bits.{bitAnd}
 use lib.ListN.{getD}
 use Rattle.flc.specs.Vocabulary.{Vocabulary}
 use Rattle.case_model.specs.Case.{read}
+use Rattle.case_model.specs.Limits.{standard}
+use Rattle.case_model.specs.Valid.{Valid}
+use Rattle.case_model.proofs.Valid.{accepted-valid}
 use Rattle.bisimilarity.proofs.Drawing.{drawn}
 use Rattle.bisimilarity.proofs.graph.draw.Statement.{statement}
 use Rattle.bisimilarity.proofs.graph.draw.Tie as tie
 
-state-count-requires : tie.Need-state-count-requires
-state-count-requires c κs = search needs
+valid : (c : tie.Start) → Valid standard (read (c .args .file .now))
+valid c = accepted-valid standard _ (c .pre .0 .rows)
+
+states-requires : tie.Need-states-requires
+states-requires c κs = search needs
 
 looked-requires : tie.Need-looked-requires
-looked-requires c κs = c .before .before .pre .rule
+looked-requires c κs = valid (c .before .before) .rule
 
 labels-requires : tie.Need-labels-requires
-labels-requires c κs = search needs
-
-step-rows-requires : tie.Need-step-rows-requires
-step-rows-requires c κs = search needs
+labels-requires c κs = valid (c .before .before .before) .table
 
 returns : tie.Need-returns
 returns c =
-    let at-looked = c .before .before in
-    let at-state-count = at-looked .before in
-    let start = at-state-count .before .before in
+    let at-looked = c .before in
+    let at-states = at-looked .before in
+    let start = at-states .before .before in
     let seen = at-looked .looked .ensures in
-    drawn (start .pre .table) _ (at-state-count .state-count .ensures .is)
-    (λ s. c .before .labels .ensures s ∙ ap (λ (W : Vocabulary). bitAnd (getD (read (start .args .file .now) .labels) s 0) (W .props)) seen)
-    (ap (λ (W : Vocabulary). W .acts) seen) (c .step-rows .ensures)
+    drawn (valid start .table) _ (at-states .states .ensures ∙ start .pre .0 .states)
+    (λ s. c .labels .ensures s ∙ ap (λ (W : Vocabulary). bitAnd (getD (read (start .args .file .now) .labels) s 0) (W .props)) seen)
+    (ap (λ (W : Vocabulary). W .acts) seen) (start .pre .1)
 
 pub draw-spec : {M : Type 1} → statement M
-draw-spec = tie.close (tie.spec state-count-requires looked-requires labels-requires step-rows-requires returns)
+draw-spec = tie.close (tie.spec states-requires looked-requires labels-requires returns)

@@ -5,7 +5,8 @@ use native.Mathlib.Nat.{mul-le-mul-right}
 use native.Mathlib.Omega.{arith}
 use lib.Pow.{pow-mono}
 use Rattle.case_model.specs.Case.{read}
-use Rattle.case_plan.proofs.Assembling.{power, label-small, Begun, headed, begun, binders-there, props-zero, planned}
+use Rattle.case_model.proofs.SectionBytes.{section-small}
+use Rattle.case_plan.proofs.Assembling.{power, Begun, headed, begun, binders-there, props-zero, planned}
 use borrow.Author.Needs.{needs}
 use Rattle.case_plan.proofs.planning.plan.Statement.{statement}
 use Rattle.case_plan.proofs.planning.plan.Tie as tie
@@ -120,7 +121,7 @@ returns c =
     let at-slice = at-count .before .before in
     let file = at-slice .before .args .file .now in
     let valid = at-slice .before .pre in
-    let bytes = label-small file (λ i. omega (arith, at-slice .shared-slice-known .given i)) in
+    let bytes = section-small file (λ i. omega (arith, at-slice .shared-slice-known .given i)) 0 in
     planned valid (at-count .node-count .ensures .is) (at-begin at-rows) (at-masks .masks .result) (at-rows .before .reached .result)
     (at-nodes .put-nodes .ensures) (at-scopes .put-scopes .ensures) (at-count .before .state-count .ensures .is) bytes
     (at-homes .put-homes .ensures) (at-props .put-props .ensures) (at-rows .step-rows .result) (c .put-sources .ensures) (at-rows .step-rows .ensures)

@@ -2,11 +2,11 @@
 use Prim.Native.Nat.{_+_, _-_, _*_}
 use mathlib.Core.Path.{sym, ap₂}
 use native.Mathlib.Omega.{arith}
+use Rattle.flc.proofs.Masks.{bit-has}
 use Rattle.case_model.specs.Limits.{propositions}
 use Rattle.case_model.proofs.Filling.{Filling, filling-none, after, turn, filled}
 use Rattle.case_plan.specs.Plans.{propsAt}
 use Rattle.case_plan.specs.Parts.{withState}
-use Rattle.case_plan.proofs.Labelling.{bit-has}
 use borrow.Author.Needs.{needs}
 use Rattle.case_plan.proofs.sets.add_state.Statement.{statement}
 use Rattle.case_plan.proofs.sets.add_state.Tie as tie

@@ -1,7 +1,8 @@
 -- `judge::entry::answer` meets its contract: after the run the root's table holds its function.
 use mathlib.Core.Path.{refl}
 use native.Mathlib.Omega.{arith}
-use Rattle.judge.proofs.Answering.{word-there, root-answer}
+use Rattle.engine.proofs.Asking.{word-there}
+use Rattle.judge.proofs.Answering.{root-answer}
 use borrow.Author.Needs.{needs}
 use Rattle.judge.proofs.entry.answer.Statement.{statement}
 use Rattle.judge.proofs.entry.answer.Tie as tie

@@ -1,9 +1,7 @@
--- `judge::entry::judge` meets its contract: vetting refuses as it says, and else the case is accepted.
+-- `judge::entry::judge` meets its contract: a refusal of vetting is the reply, and else the case is handed on.
 use mathlib.Core.Path.{_≡_, refl, sym, subst}
-use lib.ListN.{length}
-use Rattle.case_file.proofs.Answers.{accepts, turned-back}
-use Rattle.case_model.specs.Judging.{cleared}
-use Rattle.judge.proofs.Answering.{judging-refused}
+use Rattle.case_file.proofs.Answers.{handed-on, turned-back}
+use Rattle.case_model.specs.Judging.{judging, cleared}
 use borrow.Author.Needs.{needs}
 use Rattle.judge.proofs.entry.judge.Statement.{statement}
 use Rattle.judge.proofs.entry.judge.Tie as tie
@@ -11,37 +9,44 @@ use Rattle.judge.proofs.entry.judge.Tie as tie
 new-requires : tie.Need-new-requires
 new-requires c κs = search needs
 
-enum-known-vetted : tie.Need-enum-known-vetted
-enum-known-vetted c = search needs
+enum-known-checked : tie.Need-enum-known-checked
+enum-known-checked c = search needs
 
 enum-told : tie.Need-enum-told
 enum-told c = search needs
 
+refusal-requires : tie.Need-refusal-requires
+refusal-requires c κs = search needs
+
+returns : tie.Need-returns
+unfolding judging
+returns c =
+    let told = c .before .enum-told .given in
+    let at-new = c .before .before .before in
+    let w = at-new .before .before .before .args .work .now in
+    let j = turned-back _ (at-new .new .ensures) _ _ (told .0 .0) (told .1) (c .refusal .ensures (told .0 .0) (told .1)) in
+    (sym j, subst (λ R. w ≡ cleared R w) (sym j) refl)
+
 judge-accepted-requires : tie.Need-judge-accepted-requires
-judge-accepted-requires c κs = accepts _ _ (c .before .enum-told .given .1) (c .before .before .before .new .ensures) .0
+judge-accepted-requires c κs =
+    let told = c .before .before .checked .given in
+    handed-on _ (c .before .before .before .before .new .ensures) (told .0 .0) (told .1)
 
 same-length : tie.Need-same-length
 same-length c = search needs
 
-returns : tie.Need-returns
-returns c = search needs
-
 returns-2 : tie.Need-returns-2
-returns-2 c =
-    let at-new = c .before .before .before in
-    let a = at-new .before .before .before .args in
-    let w = a .work .now in
-    let j = judging-refused (a .file .now) (a .set) (length w) (turned-back _ _ (c .before .vetted .given .1) (at-new .new .ensures)) in
-    (sym j, subst (λ R. w ≡ cleared R w) (sym j) refl)
+returns-2 c = search needs
 
 pub judge-spec : {M : Type 1} → statement M
 judge-spec =
     tie.close
     (tie.spec
     new-requires
-    enum-known-vetted
+    enum-known-checked
     enum-told
+    refusal-requires
+    returns
     judge-accepted-requires
     same-length
-    returns
     returns-2)

@@ -15,15 +15,15 @@ use Rattle.merged_file.proofs.writing.merge_pair.Tie as tie
 -- from where every length is known: the start, the rows and the lengths of the sections
 abbrev of-lengths : tie.After-count2 → tie.Start
 of-lengths c =
-    let at-labels-left = c .before .before .before in
-    let at-step-rows = at-labels-left .before .before .before in
-    at-step-rows .before .before .before
+    let at-states = c .before .before .before .before in
+    let at-merged-rows = at-states .before .before in
+    at-merged-rows .before .before .before
 
 abbrev rows-of : tie.After-count2 → List ℕ
-rows-of c = let at-labels-left = c .before .before .before in at-labels-left .before .before .merged-rows .result
+rows-of c = let at-states = c .before .before .before .before in at-states .before .before .merged-rows .result
 
 abbrev set-of : tie.After-count2 → ℕ
-set-of c = let at-labels-left = c .before .before .before in at-labels-left .before .merged-starts .result
+set-of c = let at-states = c .before .before .before .before in at-states .before .merged-starts .result
 
 at-sizes : (c : tie.After-count2) → let a = of-lengths c .args in
     Measured (a .file .now) (a .pair) (rows-of c) (set-of c) (record {
@@ -34,21 +34,20 @@ at-sizes : (c : tie.After-count2) → let a = of-lengths c .args in
     })
 at-sizes c =
     let at-labels-left = c .before .before .before in
-    let at-merged-starts = at-labels-left .before in
-    let at-merged-rows = at-merged-starts .before in
-    measured _ (of-lengths c .pre)
-    (at-merged-rows .before .step-rows .ensures) (at-merged-rows .merged-rows .ensures)
-    (at-labels-left .labels-left .ensures) (ap (λ k. 3 * k) (c .before .before .count .ensures)) (c .before .section-size .ensures .is)
+    let at-merged-starts = at-labels-left .before .before in
+    measured (of-lengths c .pre) _ (at-merged-starts .before .merged-rows .ensures)
+    (omega (arith, at-labels-left .labels-left .ensures, at-labels-left .before .states .ensures))
+    (ap (λ k. 3 * k) (c .before .before .count .ensures)) (c .before .section-size .ensures .is)
     (at-merged-starts .merged-starts .ensures) (c .count2 .ensures)
-
-step-rows-requires : tie.Need-step-rows-requires
-step-rows-requires c κs = search needs
 
 merged-rows-requires : tie.Need-merged-rows-requires
 merged-rows-requires c κs = search needs
 
 merged-starts-requires : tie.Need-merged-starts-requires
-merged-starts-requires c κs = let at-slice-known = c .before .before in starts-small (at-slice-known .before .before .pre)
+merged-starts-requires c κs = starts-small (c .before .before .before .pre)
+
+states-requires : tie.Need-states-requires
+states-requires c κs = search needs
 
 labels-left-requires : tie.Need-labels-left-requires
 labels-left-requires c κs = search needs
@@ -57,7 +56,9 @@ count-requires : tie.Need-count-requires
 count-requires c κs = search needs
 
 mul-steps : tie.Need-mul-steps
-mul-steps c = let at-merged-starts = c .before .before in omega (arith, order-few (relation (at-merged-starts .before .merged-rows .result)) 2048)
+mul-steps c =
+    let at-states = c .before .before in
+    omega (arith, order-few (relation (at-states .before .before .merged-rows .result)) 2048)
 
 section-size-requires : tie.Need-section-size-requires
 section-size-requires c κs = search needs
@@ -109,9 +110,9 @@ pub merge-pair-spec : {M : Type 1} → statement M
 merge-pair-spec =
     tie.close
     (tie.spec
-    step-rows-requires
     merged-rows-requires
     merged-starts-requires
+    states-requires
     labels-left-requires
     count-requires
     mul-steps

@@ -1,8 +1,8 @@
--- `rewritten_file::plan::put_section` meets its contract: the part of the file that the section's pair tells.
+-- `rewritten_file::plan::put_section` meets its contract: the part of the file that begins where the section does and is as long.
 use mathlib.Core.Path.{_≡_, ap₂, _∙_}
 use native.Mathlib.Omega.{arith}
 use borrow.Author.Needs.{needs}
-use Rattle.case_model.specs.Bytes.{offset, size}
+use Rattle.case_model.specs.Bytes.{offset}
 use Rattle.case_model.proofs.Laying.{laid-as}
 use Rattle.case_reader.proofs.Readers.{there}
 use Rattle.case_writer.specs.Parts.{part}
@@ -19,18 +19,13 @@ begins c =
 section-offset-requires : tie.Need-section-offset-requires
 section-offset-requires c κs = search needs
 
-section-size-requires : tie.Need-section-size-requires
-section-size-requires c κs = search needs
-
 put-part-requires : tie.Need-put-part-requires
 put-part-requires c κs =
-    let at-section-offset = c .before .before in
-    let start = at-section-offset .before .before .before in
+    let start = c .before .before .before .before in
     let a = start .args in
     let pre = start .pre in
-    let o = begins at-section-offset in
-    let s = there (pre .1) (size (a .file .now) (a .k)) (c .before .section-size .ensures .is) in
-    (omega (arith, section-within (a .file .now) (pre .0) (a .k) (pre .1)), omega (arith, pre .2))
+    let o = begins (c .before) in
+    (omega (arith, section-within (a .file .now) (pre .0) (a .k) (pre .1), pre .2), omega (arith, pre .3))
 
 same-length : tie.Need-same-length
 same-length c = search needs
@@ -38,16 +33,10 @@ same-length c = search needs
 returns : tie.Need-returns
 returns c =
     let at-put-part = c .before .before in
-    let at-section-size = at-put-part .before .before in
-    let at-section-offset = at-section-size .before in
+    let at-section-offset = at-put-part .before .before in
     let start = at-section-offset .before .before .before in
-    let a = start .args in
-    let pre = start .pre in
-    let o = begins at-section-offset in
-    let s = there (pre .1) (size (a .file .now) (a .k)) (at-section-size .section-size .ensures .is) in
-    laid-as (ap₂ (part (a .file .now)) o s ∙ section-bytes (a .file .now) (a .k)) (at-put-part .put-part .ensures .0)
+    let f = start .args .file .now in
+    laid-as (ap₂ (part f) (begins at-section-offset) (start .pre .2) ∙ section-bytes f (start .args .k)) (at-put-part .put-part .ensures .0)
 
 pub put-section-spec : {M : Type 1} → statement M
-put-section-spec =
-    tie.close
-    (tie.spec section-offset-requires section-size-requires put-part-requires same-length returns)
+put-section-spec = tie.close (tie.spec section-offset-requires put-part-requires same-length returns)

@@ -1,14 +1,14 @@
--- `judge_case::all_states` meets its contract: for at most 16 states the shift loses no bit, and 2 ^ n - 1 is the set of all n.
+-- `case_reader::states::all_states` meets its contract: for at most 16 states the shift loses no bit, and 2 ^ n - 1 is the set of all n.
 use borrow.Author.Needs.{needs}
 use native.Mathlib.Omega.{arith}
 use Prim.Native.Nat.{ℕ, _%_, _^_, _≤_}
-use mathlib.Core.Path.{_≡_}
+use mathlib.Core.Path.{_≡_, sym}
 use native.Mathlib.Nat.{one-mul, mod-eq-of-lt}
 use lib.Pow.{pow-pos, pow-mono}
+use Rattle.flc.proofs.Masks.{set-all}
 use Rattle.case_model.specs.Limits.{mostStates}
-use Rattle.judge_case.proofs.States.{all-states}
-use Rattle.judge_case.proofs.all_states.Statement.{statement}
-use Rattle.judge_case.proofs.all_states.Tie as tie
+use Rattle.case_reader.proofs.states.all_states.Statement.{statement}
+use Rattle.case_reader.proofs.states.all_states.Tie as tie
 
 shifted : (n : ℕ) → n ≤ mostStates → 2 ^ n % 2 ^ 64 ≡ 2 ^ n
 shifted n few = mod-eq-of-lt (omega (arith, pow-mono {i = n} {j = 16} few))
@@ -26,7 +26,7 @@ cast-result c =
     rw (one-mul, shifted _ (c .if1 .taken)) (record { fits = omega (arith, most, pow-pos n) })
 
 returns : tie.Need-returns
-returns c = λ few. rw (one-mul, shifted _ few) (all-states (c .before .args .n))
+returns c = λ few. rw (one-mul, shifted _ few) (sym (set-all (c .before .args .n)))
 
 returns-2 : tie.Need-returns-2
 returns-2 c = λ few. absurd (omega arith)

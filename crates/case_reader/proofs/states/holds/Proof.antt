@@ -1,11 +1,11 @@
--- `judge_case::holds` meets its contract: the shift and the remainder are those of `has`, and a set of 16 bits has no other state.
+-- `case_reader::states::holds` meets its contract: the shift and the remainder are those of `has`, and a set of 16 bits has no other state.
 use mathlib.Core.Path.{sym}
 use native.Mathlib.Omega.{arith}
 use borrow.Author.Needs.{needs}
 use Rattle.flc.specs.Sets.{has}
 use Rattle.flc.proofs.Masks.{has-beyond}
-use Rattle.judge_case.proofs.holds.Statement.{statement}
-use Rattle.judge_case.proofs.holds.Tie as tie
+use Rattle.case_reader.proofs.states.holds.Statement.{statement}
+use Rattle.case_reader.proofs.states.holds.Tie as tie
 
 cast-result : tie.Need-cast-result
 cast-result c = search needs
