@@ -85,7 +85,8 @@ extern "C" {
     ROW(HOIDRUL_REASON_UNLIKE, 10, "the two states are one state, or are not alike") \
     ROW(HOIDRUL_REASON_SHAPE, 11, "there is no law or node of that number, or the law's shape is not there") \
     ROW(HOIDRUL_REASON_TOO_MANY_NODES, 12, "the rewritten rule would have more than 64 nodes") \
-    ROW(HOIDRUL_REASON_ROOM, 13, "the output area is too small for the result")
+    ROW(HOIDRUL_REASON_ROOM, 13, "the output area is too small for the result") \
+    /* end of the table */
 
 #define HOIDRUL_ROW(name, number, words) name = number,
 enum hoidrul_reason { HOIDRUL_REASONS(HOIDRUL_ROW) };

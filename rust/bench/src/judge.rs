@@ -107,6 +107,7 @@ mod tests {
     use differential::formulas::{self, Bounds};
     use differential::measure::reaches_group;
     use differential::rng::Rng;
+    use plain::Limits;
 
     /// Random rules, a third of them at least with groups, against the plain checker.
     #[test]
@@ -119,7 +120,7 @@ mod tests {
                 nesting: 2,
                 depth: 3,
             };
-            let case = formulas::case(&mut rng, bounds);
+            let case = formulas::case(&mut rng, Limits::CASE, bounds);
             groups += usize::from(reaches_group(&case));
             let file = plain::write(&case);
             let (plan, set) = (Plan::new(&file), rng.below(1 << bounds.states));

@@ -33,7 +33,8 @@ impl Task {
 
     pub fn proved(&self, work: &mut [u16]) -> Answer {
         let verdict = hoidrul::judge(black_box(&self.file), self.set, work).expect("a verdict");
-        (verdict.set, verdict.rounds)
+        let states = verdict.states.to_u16().expect("16 states at most");
+        (states, verdict.rounds)
     }
 
     pub fn indexed(&self, work: &mut [u16]) -> Answer {

@@ -1,43 +1,48 @@
 //! Tables with many alike states, and with states that are nearly so, as far as a rule looks.
 use crate::chops;
 use crate::formulas::{self, Bounds};
+use crate::generate::most_steps;
 use crate::measure::looked_at;
 use crate::rng::Rng;
-use plain::{members, Case, Triple};
+use plain::{members, Case, Limits, Triple};
 use std::collections::BTreeSet;
 
 type Steps = BTreeSet<Triple>;
 type Table = (Vec<u8>, Steps);
 
-/// A case of so many states.
-pub fn case(rng: &mut Rng, states: usize) -> Case {
-    let case = with_small_rule(rng, states);
-    with_table(rng, case)
+/// The actions of steps that copies share.
+const ACTIONS: usize = 3;
+
+/// A case of so many states, whose file is within the limits, whatever its padding.
+pub fn case(rng: &mut Rng, limits: Limits, states: usize) -> Case {
+    let case = with_small_rule(rng, limits, states);
+    with_table(rng, limits, case)
 }
 
 /// The same with a rule of so many nodes at most in which the laws find much to rewrite.
-pub fn with_chops(rng: &mut Rng, states: usize, most: usize) -> Case {
-    let case = with_small_rule(rng, states);
+pub fn with_chops(rng: &mut Rng, limits: Limits, states: usize, most: usize) -> Case {
+    let case = with_small_rule(rng, limits, states);
     let case = chops::put_into(rng, case, most);
-    with_table(rng, case)
+    with_table(rng, limits, case)
 }
 
-fn with_small_rule(rng: &mut Rng, states: usize) -> Case {
+fn with_small_rule(rng: &mut Rng, limits: Limits, states: usize) -> Case {
     let bounds = Bounds {
         states,
         nesting: 1,
         depth: 3,
     };
-    formulas::case(rng, bounds)
+    formulas::case(rng, limits, bounds)
 }
 
 /// The case with another table of as many states. One in three is nearly what it was drawn to be.
-fn with_table(rng: &mut Rng, case: Case) -> Case {
+fn with_table(rng: &mut Rng, limits: Limits, case: Case) -> Case {
     let states = case.labels.len();
     let mut table = match rng.below(4) {
         0 => mirrored_ring(rng, states),
         1 => chains(rng, states),
-        _ => copies(rng, states),
+        // Room is left for a step that disturbs, and for those that are not seen.
+        _ => copies(rng, states, most_steps(limits, states) - 1 - 2 * states),
     };
     if rng.one_in(3) {
         disturb(rng, &mut table);
@@ -92,9 +97,10 @@ fn add_unseen(rng: &mut Rng, (labels, steps): &mut Table, (propositions, actions
 }
 
 /// Each state copies one of a few originals. Where an original steps to another, each copy of it
-/// steps to one or more copies of that other.
-fn copies(rng: &mut Rng, states: usize) -> Table {
-    let originals = rng.within(1..=states.min(5));
+/// steps to one or more copies of that other. There are so many steps at most.
+fn copies(rng: &mut Rng, states: usize, most: usize) -> Table {
+    let originals = rng.within(1..=states.min(5).min(most / (ACTIONS * states)));
+    let most_targets = most / (ACTIONS * states * originals);
     let mut original: Vec<usize> = (0..originals).collect();
     original.resize_with(states, || rng.below(originals));
     shuffle(rng, &mut original);
@@ -103,9 +109,10 @@ fn copies(rng: &mut Rng, states: usize) -> Table {
     let labels = original.iter().map(|&of| label[of]).collect();
     let mut steps = Steps::new();
     for (from, to) in pairs(originals) {
-        for action in 0..3 {
+        for action in 0..ACTIONS {
             if rng.one_in(3) {
-                copy_steps(rng, &mut steps, &original, (from, action, to));
+                let step = (from, action as u8, to);
+                copy_steps(rng, &mut steps, &original, step, most_targets);
             }
         }
     }
@@ -117,11 +124,12 @@ fn copy_steps(
     steps: &mut Steps,
     original: &[usize],
     (from, action, to): (usize, u8, usize),
+    most_targets: usize,
 ) {
     let of = |wanted| (0..original.len()).filter(move |&state| original[state] == wanted);
     let targets: Vec<usize> = of(to).collect();
     for copy in of(from) {
-        for _ in 0..rng.within(1..=targets.len()) {
+        for _ in 0..rng.within(1..=targets.len().min(most_targets)) {
             steps.insert((copy as u8, action, rng.pick(&targets) as u8));
         }
     }

@@ -1,4 +1,4 @@
-//! Valid files with one fault, each with the refusal that the fault must get.
+//! Valid files with one fault, each with the refusal that the fault must get within the limits.
 mod gaps;
 mod nodes;
 mod pairs;
@@ -9,7 +9,7 @@ pub use pairs::without_starts;
 use crate::generate::case_where;
 use crate::padding;
 use crate::rng::Rng;
-use plain::{Case, Refusal};
+use plain::{Case, Limits, Refusal};
 use std::fmt::Debug;
 
 pub struct Damaged {
@@ -17,7 +17,7 @@ pub struct Damaged {
     pub refusal: Refusal,
 }
 
-pub type Damage = fn(&mut Rng) -> Damaged;
+pub type Damage = fn(&mut Rng, Limits) -> Damaged;
 
 pub const DAMAGES: [(&str, Damage); 30] = [
     ("cut", pairs::cut),
@@ -57,12 +57,13 @@ pub const DAMAGES: [(&str, Damage); 30] = [
 pub fn expect_refusals<T: Debug + PartialEq>(
     seed: u64,
     files: usize,
+    limits: Limits,
     mut reply: impl FnMut(&mut Rng, &[u8]) -> Result<T, Refusal>,
 ) {
     for (seed, (name, damage)) in (seed..).zip(DAMAGES) {
         let mut rng = Rng::new(seed);
         for _ in 0..files {
-            let Damaged { file, refusal } = damage(&mut rng);
+            let Damaged { file, refusal } = damage(&mut rng, limits);
             assert_eq!(reply(&mut rng, &file), Err(refusal), "{name}: {file:?}");
         }
     }
@@ -79,8 +80,11 @@ fn damaged(file: Vec<u8>, number: u32, place: usize) -> Damaged {
 }
 
 /// A case with room in its file: sections that grow a little do not make it too long.
-fn roomy(rng: &mut Rng, wanted: impl Fn(&Case) -> bool) -> Case {
-    case_where(rng, |case| case.steps.len() <= 1024 && wanted(case))
+fn roomy(rng: &mut Rng, limits: Limits, wanted: impl Fn(&Case) -> bool) -> Case {
+    let half = limits.longest_file / 2;
+    case_where(rng, limits, |case| {
+        3 * case.steps.len() <= half && wanted(case)
+    })
 }
 
 /// `limit` itself half of the time, else it or anything above.

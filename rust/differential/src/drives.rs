@@ -1,7 +1,8 @@
 //! The cases of the folder `cases`, as data: the drives of docs/SPECIFICATION.md, 10.1, and a label
 //! printer's.
+use crate::generate::{all_steps, most_steps, step};
 use crate::{padding, printer};
-use plain::{write, Case, Triple};
+use plain::{write, Case, Limits, Triple, MOST_NODES};
 use std::fs;
 use std::path::{Path, PathBuf};
 
@@ -173,15 +174,19 @@ fn one_state(nodes: &[Triple]) -> Case {
     case(&[0], &[], nodes)
 }
 
-/// The bytes of the longest packed file: the pairs, the labels, the steps, the rule, the start states.
+/// The bytes of the longest packed file of a case: the pairs, the labels, the steps, the rule, the start states.
 pub const LONGEST_PACKED: usize = 16 + 16 + 3 * 2048 + (3 * 64 + 1) + 16;
 
-/// The longest case: 16 states, every step that there can be, 64 nodes, every state a start state.
-pub fn longest() -> Case {
-    let step = |i: usize| ((i / 128) as u8, (i / 16 % 8) as u8, (i % 16) as u8);
-    let steps: Vec<Triple> = (0..2048).map(step).collect();
-    let case = case(&[255; 16], &steps, &[(0, 0, 0); 64]);
-    starting_in(&Vec::from_iter(0..16), case)
+/// The longest case: as many states as there may be, every step that there can be, or as many as have
+/// room, 64 nodes, every state a start state.
+pub fn longest(limits: Limits) -> Case {
+    let states = limits.most_states;
+    let all = all_steps(states);
+    let count = all.min(most_steps(limits, states));
+    let steps: Vec<Triple> = (0..count).map(|i| step(i * all / count, states)).collect();
+    let case = case(&vec![255; states], &steps, &[(0, 0, 0); MOST_NODES]);
+    let starts: Vec<u8> = (0..states).map(|state| state as u8).collect();
+    starting_in(&starts, case)
 }
 
 /// The case with these start states.

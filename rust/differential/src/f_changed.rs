@@ -1,6 +1,6 @@
 //! Case F with a change: an example of each refusal of a file.
 use crate::drives;
-use plain::{write, Case, Refusal};
+use plain::{write, Case, Limits, Refusal};
 
 /// The file of case F with a change.
 pub fn f_with(change: impl FnOnce(&mut Case)) -> Vec<u8> {
@@ -10,10 +10,11 @@ pub fn f_with(change: impl FnOnce(&mut Case)) -> Vec<u8> {
 }
 
 /// Examples of rows 1 to 7, each with its refusal.
-pub fn refused_files() -> [(Vec<u8>, Refusal); 9] {
+pub fn refused_files(limits: Limits) -> [(Vec<u8>, Refusal); 9] {
+    let labels = vec![0; limits.most_states + 1];
     [
         (vec![], Refusal::new(1, 0)),
-        (f_with(|f| f.labels = vec![0; 17]), Refusal::new(2, 0)),
+        (f_with(|f| f.labels = labels), Refusal::new(2, 0)),
         (f_with(|f| f.steps[0] = (0, 0, 2)), Refusal::new(3, 0)),
         (f_with(|f| f.root = 10), Refusal::new(4, 0)),
         (f_with(|f| f.starts = vec![2]), Refusal::new(4, 0)),

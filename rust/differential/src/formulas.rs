@@ -1,12 +1,13 @@
 //! Cases for judging: rules drawn from the root down, so that binders bind what their bodies use.
 //! Nodes are shared, and some that the root does not reach stand between the others.
+use crate::rings::{steps, ACTIONS};
 use crate::rng::Rng;
 use crate::starts::starts;
 use crate::{generate, groups};
 use plain::kinds::{
     AND, BOX, CHOP, COMPLEMENT, DIAMOND, FALSE, MU, NU, OR, PROPOSITION, TAU, TRUE, VARIABLE,
 };
-use plain::{Case, Shape, Triple};
+use plain::{Case, Limits, Shape, Triple};
 
 /// How large a case may get.
 #[derive(Clone, Copy)]
@@ -34,13 +35,11 @@ impl Bounds {
     }
 }
 
-/// Few actions, so that steps and modalities meet.
-const ACTIONS: usize = 3;
-
 /// With so many nodes a rule is only brought to its end, for which 64 leave room.
 const ENOUGH: usize = 40;
 
-pub fn case(rng: &mut Rng, bounds: Bounds) -> Case {
+/// A case within the bounds, whose file is within the limits, whatever its padding.
+pub fn case(rng: &mut Rng, limits: Limits, bounds: Bounds) -> Case {
     let mut rule = Rule {
         unused: shuffled(rng),
         ..Rule::default()
@@ -51,36 +50,14 @@ pub fn case(rng: &mut Rng, bounds: Bounds) -> Case {
     }
     Case {
         labels: rng.bytes(bounds.states),
-        steps: steps(rng, bounds.states),
+        steps: steps(
+            rng,
+            bounds.states,
+            generate::most_steps(limits, bounds.states),
+        ),
         nodes: rule.nodes,
         root,
         starts: starts(rng, bounds.states),
-    }
-}
-
-/// Rings make for many rounds; else each step is drawn on its own.
-fn steps(rng: &mut Rng, states: usize) -> Vec<Triple> {
-    let rings = rng.one_in(2);
-    let one_in = rng.within(1..=states + 1);
-    let mut steps = vec![];
-    for from in 0..states {
-        for action in 0..ACTIONS {
-            let ring = rings && action == 0;
-            let next = next_in_ring(from, states);
-            let mut is_step = |to| if ring { to == next } else { rng.one_in(one_in) };
-            let targets = (0..states).filter(|&to| is_step(to));
-            steps.extend(targets.map(|to| (from as u8, action as u8, to as u8)));
-        }
-    }
-    steps
-}
-
-/// Rings of four states, the last of what is left.
-fn next_in_ring(state: usize, states: usize) -> usize {
-    if state % 4 == 3 || state + 1 == states {
-        state / 4 * 4
-    } else {
-        state + 1
     }
 }
 

@@ -1,13 +1,14 @@
 //! Valid cases: shared nodes, nested binders, unreached nodes with free variables or that would look
 //! at more than the rule does.
 use crate::groups::group;
+use crate::padding::WIDEST;
 use crate::rng::Rng;
 use crate::starts::starts;
 use plain::kinds::{
     values_of_a, AND, BOX, CHOP, COMPLEMENT, DIAMOND, FALSE, GROUP_BOX, GROUP_DIAMOND, MU, NU, OR,
     PROPOSITION, TAU, TRUE, VARIABLE,
 };
-use plain::{Case, Shape, Triple};
+use plain::{Case, Limits, Shape, Triple, MOST_NODES, PAIRS_LENGTH};
 
 /// A valid case and, for each node, its free variables: bit v for variable v.
 pub struct Drawn {
@@ -15,28 +16,29 @@ pub struct Drawn {
     pub free: Vec<u16>,
 }
 
-pub fn case(rng: &mut Rng) -> Case {
-    drawn(rng).case
+/// A case whose file is within the limits, whatever its padding.
+pub fn case(rng: &mut Rng, limits: Limits) -> Case {
+    drawn(rng, limits).case
 }
 
 /// A case that `wanted` holds of.
-pub fn case_where(rng: &mut Rng, wanted: impl Fn(&Case) -> bool) -> Case {
-    drawn_where(rng, |drawn| wanted(&drawn.case)).case
+pub fn case_where(rng: &mut Rng, limits: Limits, wanted: impl Fn(&Case) -> bool) -> Case {
+    drawn_where(rng, limits, |drawn| wanted(&drawn.case)).case
 }
 
-pub fn drawn_where(rng: &mut Rng, wanted: impl Fn(&Drawn) -> bool) -> Drawn {
+pub fn drawn_where(rng: &mut Rng, limits: Limits, wanted: impl Fn(&Drawn) -> bool) -> Drawn {
     loop {
-        let drawn = drawn(rng);
+        let drawn = drawn(rng, limits);
         if wanted(&drawn) {
             return drawn;
         }
     }
 }
 
-fn drawn(rng: &mut Rng) -> Drawn {
-    let states = rng.within(1..=16);
+fn drawn(rng: &mut Rng, limits: Limits) -> Drawn {
+    let states = rng.within(1..=limits.most_states);
     let labels = rng.bytes(states);
-    let steps = steps(rng, states);
+    let steps = steps(rng, limits, states);
     let (rule, root) = closed_rule(rng);
     let case = Case {
         labels,
@@ -51,20 +53,42 @@ fn drawn(rng: &mut Rng) -> Drawn {
     }
 }
 
-/// Transitions in order, from none to all that there can be.
-fn steps(rng: &mut Rng, states: usize) -> Vec<Triple> {
-    let all = states * 8 * states;
+/// How many steps have room in a file, whatever else is in it and however it is padded.
+pub fn most_steps(limits: Limits, states: usize) -> usize {
+    let rule = 3 * MOST_NODES + 1;
+    let padding: usize = WIDEST.iter().sum();
+    (limits.longest_file - PAIRS_LENGTH - 2 * states - rule - padding) / 3
+}
+
+/// How many steps there can be between so many states.
+pub fn all_steps(states: usize) -> usize {
+    states * 8 * states
+}
+
+/// Of all steps that there can be, in order, the one with this number.
+pub fn step(number: usize, states: usize) -> Triple {
+    let (from, action) = (number / states / 8, number / states % 8);
+    (from as u8, action as u8, (number % states) as u8)
+}
+
+/// Transitions in order, from none to all that there can be, or that have room.
+fn steps(rng: &mut Rng, limits: Limits, states: usize) -> Vec<Triple> {
+    let (all, most) = (all_steps(states), most_steps(limits, states));
     let one_in = match rng.below(8) {
         0 => return vec![],
         1 => 1,
         2 => 2,
         _ => 1 + all / rng.within(1..=24),
     };
-    let place = |i: usize| (i / states / 8, i / states % 8, i % states);
-    let taken = (0..all).filter(|_| rng.one_in(one_in)).map(place);
-    taken
-        .map(|(from, action, to)| (from as u8, action as u8, to as u8))
-        .collect()
+    let one_in = one_in.max(all.div_ceil(most));
+    // From one to the next that is taken, so that the time is that of those taken.
+    let mut steps = vec![];
+    let mut number = rng.below(one_in);
+    while number < all && steps.len() < most {
+        steps.push(step(number, states));
+        number += rng.within(1..=2 * one_in - 1);
+    }
+    steps
 }
 
 /// A rule and a root without free variables; drawn again while every node has some.
@@ -96,7 +120,7 @@ struct Rule {
 impl Rule {
     fn draw(rng: &mut Rng) -> Rule {
         let mut rule = Rule::default();
-        for _ in 0..rng.within(1..=64) {
+        for _ in 0..rng.within(1..=MOST_NODES) {
             let node = rule.node(rng);
             rule.push(node);
         }
@@ -182,7 +206,7 @@ impl Rule {
 
     /// Nests binders over the last node until it has no free variable, if they find room.
     fn close_last(&mut self, rng: &mut Rng) {
-        while self.nodes.len() < 64 {
+        while self.nodes.len() < MOST_NODES {
             let last = self.nodes.len() - 1;
             if self.free[last] & !self.bound == 0 {
                 return;

@@ -124,14 +124,11 @@ fn lending<T: std::fmt::Debug>(
     in_plain(reply)
 }
 
-/// The verdict with its set state by state; bits beyond the case must be 0.
+/// The verdict with its set state by state; no state beyond the case may be in it.
 fn in_states(file: &[u8], verdict: hoidrul::Verdict) -> Verdict {
     let (states, _) = plain::vet(file, 0).expect("what is answered is a case");
-    assert_eq!(
-        u32::from(verdict.set) >> states,
-        0,
-        "states beyond {states}"
-    );
+    let beyond = verdict.states.iter().any(|state| state >= states);
+    assert!(!beyond, "{verdict:?} of {states} states");
     Verdict {
         states: (0..states).map(|s| verdict.holds(s)).collect(),
         rounds: verdict.rounds,

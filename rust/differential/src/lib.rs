@@ -19,6 +19,7 @@ pub mod padding;
 pub mod printed;
 pub mod printer;
 pub mod replies;
+pub mod rings;
 pub mod rng;
 pub mod starts;
 pub mod strange;

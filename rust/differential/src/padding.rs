@@ -1,6 +1,6 @@
 //! Padded files: up to three bytes 0 in front of each section but the first.
 use crate::rng::Rng;
-use plain::{write, Case, PAIRS_LENGTH};
+use plain::{write, Case, MOST_PADDING, PAIRS_LENGTH};
 use std::ops::Range;
 
 /// How many bytes stand in front of sections 1, 2 and 3.
@@ -8,7 +8,7 @@ pub type Gaps = [usize; 3];
 
 pub const PACKED: Gaps = [0; 3];
 /// As much padding as there can be.
-pub const WIDEST: Gaps = [3; 3];
+pub const WIDEST: Gaps = [MOST_PADDING; 3];
 
 /// All gaps that a case can have: number 0 is a packed file's.
 pub fn all() -> impl Iterator<Item = Gaps> {

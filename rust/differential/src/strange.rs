@@ -4,9 +4,9 @@ use crate::groups::{group, has_group};
 use crate::padding::{self, gaps, padded, padding_of, sections, write_padded, Gaps};
 use crate::rng::Rng;
 use plain::kinds::{self, VARIABLE};
-use plain::{pack, write, Shape, Triple, PAIRS_LENGTH};
+use plain::{pack, write, Limits, Shape, Triple, PAIRS_LENGTH};
 
-pub type Strange = fn(&mut Rng) -> Vec<u8>;
+pub type Strange = fn(&mut Rng, Limits) -> Vec<u8>;
 
 pub const STRANGE: [Strange; 7] = [
     bytes_changed,
@@ -40,15 +40,15 @@ pub fn section(rng: &mut Rng) -> usize {
 }
 
 /// A few bytes of a valid file are others, often by one.
-fn bytes_changed(rng: &mut Rng) -> Vec<u8> {
-    let case = case(rng);
+fn bytes_changed(rng: &mut Rng, limits: Limits) -> Vec<u8> {
+    let case = case(rng, limits);
     let mut file = padding::file(rng, &case);
     for _ in 0..rng.within(1..=3) {
         let back = if rng.one_in(2) { 193 } else { file.len() };
         let at = file.len() - rng.within(1..=back.min(file.len()));
         file[at] = match rng.below(4) {
             0 => rng.byte(),
-            1 => rng.byte_below(16),
+            1 => rng.byte_below(limits.most_states),
             2 => file[at].wrapping_add(1),
             _ => file[at].wrapping_sub(1),
         };
@@ -56,8 +56,8 @@ fn bytes_changed(rng: &mut Rng) -> Vec<u8> {
     file
 }
 
-fn sections_swapped(rng: &mut Rng) -> Vec<u8> {
-    let file = write(&case(rng));
+fn sections_swapped(rng: &mut Rng, limits: Limits) -> Vec<u8> {
+    let file = write(&case(rng, limits));
     let mut parts = sections(&file).map(|part| &file[part]);
     for _ in 0..rng.within(1..=3) {
         let second = rng.within(1..=3);
@@ -67,8 +67,8 @@ fn sections_swapped(rng: &mut Rng) -> Vec<u8> {
 }
 
 /// Right pairs over the bytes of a valid file, with the borders moved a little.
-fn sections_cut_elsewhere(rng: &mut Rng) -> Vec<u8> {
-    let case = case(rng);
+fn sections_cut_elsewhere(rng: &mut Rng, limits: Limits) -> Vec<u8> {
+    let case = case(rng, limits);
     let file = write(&case);
     let body = &file[PAIRS_LENGTH..];
     let states = case.labels.len();
@@ -83,8 +83,8 @@ fn sections_cut_elsewhere(rng: &mut Rng) -> Vec<u8> {
 }
 
 /// Sections of a valid file up to five bytes apart, of which at times one is not 0.
-fn any_gaps(rng: &mut Rng) -> Vec<u8> {
-    let case = case(rng);
+fn any_gaps(rng: &mut Rng, limits: Limits) -> Vec<u8> {
+    let case = case(rng, limits);
     let gaps: Gaps = [0; 3].map(|_| rng.pick(&[0, 0, 1, 1, 2, 2, 3, 3, 4, 5]));
     let mut file = write_padded(&case, gaps);
     let padding = padding_of(&file);
@@ -95,21 +95,22 @@ fn any_gaps(rng: &mut Rng) -> Vec<u8> {
 }
 
 /// Right pairs, sections of any length near the limits, small bytes.
-fn any_sections(rng: &mut Rng) -> Vec<u8> {
+fn any_sections(rng: &mut Rng, limits: Limits) -> Vec<u8> {
     let mut section = |lengths: &[usize]| -> Vec<u8> {
         let length = rng.pick(lengths);
         (0..length).map(|_| rng.byte_below(8)).collect()
     };
-    let labels = section(&[0, 1, 2, 8, 15, 16, 17, 18, 256, 257]);
+    let most = limits.most_states;
+    let labels = section(&[0, 1, 2, 8, most - 1, most, most + 1, most + 2, 256, 257]);
     let steps = section(&[0, 0, 0, 0, 1, 2, 3, 4, 6, 9]);
     let rule = section(&[0, 1, 2, 3, 4, 5, 6, 7, 10, 190, 193, 194, 196, 769]);
-    let starts = section(&[0, 0, 0, 0, 1, 1, 2, 3, 16, 17]);
+    let starts = section(&[0, 0, 0, 0, 1, 1, 2, 3, most, most + 1]);
     padded(&pack(&[&labels, &steps, &rule, &starts]), gaps(rng))
 }
 
 /// A right state table under nodes that are mostly in range.
-fn any_nodes(rng: &mut Rng) -> Vec<u8> {
-    let mut case = case(rng);
+fn any_nodes(rng: &mut Rng, limits: Limits) -> Vec<u8> {
+    let mut case = case(rng, limits);
     let count = rng.within(1..=8);
     case.nodes = (0..count).map(|number| any_node(rng, number)).collect();
     case.root = rng.byte_below(count);
@@ -128,12 +129,12 @@ fn any_node(rng: &mut Rng, number: usize) -> Triple {
 }
 
 /// Bytes without meaning; every other file begins as a case does.
-fn any_bytes(rng: &mut Rng) -> Vec<u8> {
-    const LENGTHS: [usize; 14] = [
-        0, 1, 4, 12, 15, 16, 17, 55, 100, 6393, 6394, 6395, 65_535, 70_000,
-    ];
+fn any_bytes(rng: &mut Rng, limits: Limits) -> Vec<u8> {
+    let longest = limits.longest_file;
+    let borders = [longest - 1, longest, longest + 1, 65_535, 70_000];
     let length = if rng.one_in(4) {
-        rng.pick(&LENGTHS)
+        let short = [0, 1, 4, 12, 15, 16, 17, 55, 100];
+        rng.pick(&[&short[..], &borders].concat())
     } else {
         rng.below(80)
     };

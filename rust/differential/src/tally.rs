@@ -1,7 +1,7 @@
 //! The comparison of the two checkers, and a count of what was compared.
 use crate::groups::has_group;
 use crate::padding::{gaps_of, PACKED};
-use crate::replies::in_plain;
+use crate::replies::{in_plain, LAST_ROW};
 use plain::Refusal;
 use std::hint::black_box;
 use std::ops::Range;
@@ -22,9 +22,9 @@ pub struct Tally {
     /// Those about a padded file.
     pub with_padding: usize,
     /// By number; index 0 is unused.
-    pub refusals: [usize; 14],
+    pub refusals: [usize; LAST_ROW + 1],
     /// Those of them whose place is not 0.
-    pub placed: [usize; 14],
+    pub placed: [usize; LAST_ROW + 1],
 }
 
 impl Tally {

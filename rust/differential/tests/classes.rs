@@ -6,7 +6,7 @@ use differential::replies::refused;
 use differential::rng::Rng;
 use differential::strange::STRANGE;
 use differential::{alike_tables, drives, generate, padding};
-use plain::{classes_by_all_relations, write};
+use plain::{classes_by_all_relations, write, Limits};
 
 #[test]
 fn drives() {
@@ -21,7 +21,7 @@ fn tables_with_alike_states() {
     let (mut fewer, mut all) = (0, 0);
     for i in 0..1_500 {
         let states = 1 + i % 16;
-        let case = alike_tables::case(&mut rng, states);
+        let case = alike_tables::case(&mut rng, Limits::CASE, states);
         let found = classes(&padding::file(&mut rng, &case), 16).unwrap();
         assert_eq!(found.len(), states);
         let count = (0..states).filter(|&s| usize::from(found[s]) == s).count();
@@ -35,7 +35,7 @@ fn tables_with_alike_states() {
 fn small_tables_by_all_relations() {
     let mut rng = Rng::new(610);
     for i in 0..300 {
-        let case = alike_tables::case(&mut rng, 1 + i % 4);
+        let case = alike_tables::case(&mut rng, Limits::CASE, 1 + i % 4);
         let expected = classes_by_all_relations(&case);
         let file = padding::file(&mut rng, &case);
         assert_eq!(classes(&file, 4), Ok(expected), "{case:?}");
@@ -46,7 +46,7 @@ fn small_tables_by_all_relations() {
 fn tables_of_any_kind() {
     let mut rng = Rng::new(620);
     for _ in 0..500 {
-        let case = generate::case(&mut rng);
+        let case = generate::case(&mut rng, Limits::CASE);
         let file = padding::file(&mut rng, &case);
         assert!(classes(&file, 20).is_ok());
     }
@@ -56,7 +56,7 @@ fn tables_of_any_kind() {
 fn areas_of_every_length() {
     let mut rng = Rng::new(630);
     for i in 0..64 {
-        let case = alike_tables::case(&mut rng, 1 + i % 16);
+        let case = alike_tables::case(&mut rng, Limits::CASE, 1 + i % 16);
         let file = padding::file(&mut rng, &case);
         let result = classes(&file, 16).unwrap();
         rooms(&file, &result, classes);
@@ -65,7 +65,9 @@ fn areas_of_every_length() {
 
 #[test]
 fn damaged_cases() {
-    expect_refusals(640, 50, |rng, file| classes(file, rng.below(32)));
+    expect_refusals(640, 50, Limits::CASE, |rng, file| {
+        classes(file, rng.below(32))
+    });
 }
 
 #[test]
@@ -74,7 +76,7 @@ fn strange_files() {
     let mut short = 0;
     for draw in STRANGE {
         for _ in 0..300 {
-            let reply = classes(&draw(&mut rng), rng.below(16));
+            let reply = classes(&draw(&mut rng, Limits::CASE), rng.below(16));
             short += usize::from(reply == refused(13, 0));
         }
     }

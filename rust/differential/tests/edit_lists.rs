@@ -6,10 +6,10 @@ use differential::edits::{turn, LONGEST};
 use differential::groups::has_group;
 use differential::judging::{needed, proved_starts, verdict};
 use differential::padding::{self, gaps_of, padding_of, PACKED};
-use differential::replies::refused;
+use differential::replies::{refused, LAST_ROW};
 use differential::rng::Rng;
 use differential::{alike_tables, drives, generate};
-use plain::{alike, alike_in_full, write, Book, Case, Edit, Shape, Triple};
+use plain::{alike, alike_in_full, write, Book, Case, Edit, Limits, Shape, Triple};
 
 /// How often each reply came.
 #[derive(Default, Debug)]
@@ -24,7 +24,7 @@ struct Count {
     rewrites: usize,
     /// Those that put nodes in, with groups at lower nodes and at higher ones.
     between_groups: usize,
-    refusals: [usize; 14],
+    refusals: [usize; LAST_ROW + 1],
     /// Lists of a case in which some states hold and some do not.
     mixed: usize,
     /// Lists of a case that has start states, by whether all of these hold: no, yes.
@@ -181,9 +181,9 @@ fn room(rng: &mut Rng, file: &[u8]) -> usize {
 fn case(rng: &mut Rng, i: usize) -> Case {
     let states = 1 + i % 8;
     match i % 3 {
-        0 => alike_tables::case(rng, states),
-        1 => alike_tables::with_chops(rng, states, 24),
-        _ => alike_tables::with_chops(rng, states, 64),
+        0 => alike_tables::case(rng, Limits::CASE, states),
+        1 => alike_tables::with_chops(rng, Limits::CASE, states, 24),
+        _ => alike_tables::with_chops(rng, Limits::CASE, states, 64),
     }
 }
 
@@ -248,7 +248,7 @@ fn rules_of_any_kind() {
     let mut rng = Rng::new(910);
     let mut count = Count::default();
     for _ in 0..80 {
-        let case = generate::case_where(&mut rng, |case| case.labels.len() <= 5);
+        let case = generate::case_where(&mut rng, Limits::CASE, |case| case.labels.len() <= 5);
         let first = padding::file(&mut rng, &case);
         run(&mut rng, &first, &mut count);
     }

@@ -7,14 +7,14 @@ use differential::groups::has_group;
 use differential::judging::{all_states, compare, compare_sets, needed, number_of, set_of};
 use differential::measure::reaches_group;
 use differential::rng::Rng;
-use plain::{write, Case, Shape, Triple};
+use plain::{write, Case, Limits, Shape, Triple};
 
 /// Up to five states with steps of any action.
 fn tables(seed: u64, count: usize) -> Vec<Case> {
     let mut rng = Rng::new(seed);
     let fits = |case: &Case| case.labels.len() <= 5 && !case.steps.is_empty();
     (0..count)
-        .map(|_| generate::case_where(&mut rng, fits))
+        .map(|_| generate::case_where(&mut rng, Limits::CASE, fits))
         .collect()
 }
 
@@ -186,7 +186,7 @@ fn random_rules_spelled_out() {
             nesting: 2,
             depth: 3,
         };
-        let with_groups = formulas::case(&mut rng, bounds);
+        let with_groups = formulas::case(&mut rng, Limits::CASE, bounds);
         let Some(without) = spelled_out(&with_groups) else {
             continue;
         };

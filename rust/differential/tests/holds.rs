@@ -4,7 +4,7 @@ use differential::damage::expect_refusals;
 use differential::drives::{case, folder, longest, starting_in};
 use differential::padding::{write_padded, WIDEST};
 use differential::printed::{wanted, wanted_in};
-use plain::{vet, write, Triple};
+use plain::{vet, write, Limits, Triple};
 use std::fs;
 use std::path::Path;
 use std::process::Command;
@@ -85,11 +85,11 @@ fn too_large_for_the_program() {
 /// The longest file, one byte more, and damaged files.
 #[test]
 fn refusals() {
-    let mut file = write_padded(&longest(), WIDEST);
+    let mut file = write_padded(&longest(Limits::CASE), WIDEST);
     assert_eq!(file.len(), hoidrul::LONGEST);
     file.push(0);
     assert_eq!(check_bytes("one_byte_more.case", &file), "refused 1 0\n");
-    expect_refusals(550, 2, |_, file| {
+    expect_refusals(550, 2, Limits::CASE, |_, file| {
         check_bytes("damaged.case", file);
         vet(file, 0)
     });

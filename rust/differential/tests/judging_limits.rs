@@ -3,7 +3,7 @@ use differential::drives::{self, wheels};
 use differential::f_changed::{f_with, refused_files};
 use differential::judging::{all_states, compare, compare_sets, needed, proved, set_of, Judged};
 use differential::replies::refused;
-use plain::{write, Case, Triple, Verdict};
+use plain::{write, Case, Limits, Triple, Verdict};
 
 fn verdict(states: Vec<bool>, rounds: u64) -> Judged {
     Ok(Verdict { states, rounds })
@@ -88,7 +88,7 @@ fn rows_are_tested_in_rising_number() {
     assert_eq!(compare(&file, 4, 79), refused(8, 0));
     assert_eq!(compare(&file, 4, 0), refused(8, 0));
     assert_eq!(compare(&file, 3, 0), refused(9, 0));
-    for (file, refusal) in refused_files() {
+    for (file, refusal) in refused_files(Limits::CASE) {
         for (set, words) in [(3, 80), (4, 80), (3, 79), (4, 79), (65_535, 0)] {
             assert_eq!(compare(&file, set, words), Err(refusal));
         }

@@ -4,7 +4,7 @@ use differential::generate;
 use differential::judging::{compare_sets, compare_with_all_functions};
 use differential::measure::{nesting, reaches_group, tree_size};
 use differential::rng::Rng;
-use plain::Case;
+use plain::{Case, Limits};
 
 /// Every set of so many states, or `most` of them at random.
 fn sets(rng: &mut Rng, states: usize, most: usize) -> Vec<u16> {
@@ -53,7 +53,9 @@ fn judge_drawn(
 
 fn judge_within(bounds: Bounds, count: usize, most_sets: usize) -> Count {
     let seed = 300 + bounds.states as u64;
-    judge_drawn(seed, count, most_sets, |rng| case(rng, bounds))
+    judge_drawn(seed, count, most_sets, |rng| {
+        case(rng, Limits::CASE, bounds)
+    })
 }
 
 /// Up to three binders within one another.
@@ -107,7 +109,9 @@ fn large_tables() {
 #[test]
 fn rules_from_the_leaves_up() {
     let small = |case: &Case| case.labels.len() <= 5 && nesting(case) <= 3;
-    let count = judge_drawn(320, 1_500, 8, |rng| generate::case_where(rng, small));
+    let count = judge_drawn(320, 1_500, 8, |rng| {
+        generate::case_where(rng, Limits::CASE, small)
+    });
     assert!(count.at_least(1) >= 200 && count.groups >= 200);
 }
 
@@ -125,7 +129,7 @@ fn all_monotone_functions() {
         };
         let turns = [0, 3, 36][states];
         let case = loop {
-            let case = case(&mut rng, bounds);
+            let case = case(&mut rng, Limits::CASE, bounds);
             if tree_size(&case, turns) <= 50_000 {
                 break case;
             }

@@ -8,6 +8,7 @@ use differential::padding;
 use differential::replies::{in_plain, refused};
 use differential::rng::Rng;
 use differential::strange::STRANGE;
+use plain::Limits;
 
 /// Around the length that is needed, and far from it.
 #[test]
@@ -19,7 +20,7 @@ fn areas_of_every_length() {
             nesting: 2,
             depth: 3,
         };
-        let case = formulas::case(&mut rng, bounds);
+        let case = formulas::case(&mut rng, Limits::CASE, bounds);
         let file = padding::file(&mut rng, &case);
         let set = rng.below(1 << bounds.states) as u16;
         let needed = needed(&file);
@@ -42,7 +43,7 @@ fn sets_and_areas_refused() {
     let mut rng = Rng::new(410);
     let mut refusals = [0; 10];
     for _ in 0..4_000 {
-        let case = generate::case(&mut rng);
+        let case = generate::case(&mut rng, Limits::CASE);
         let file = padding::file(&mut rng, &case);
         let set = if rng.one_in(2) {
             rng.below(4) as u16
@@ -60,10 +61,12 @@ fn sets_and_areas_refused() {
 /// Each fault gets its own row and place, whatever the set and the area.
 #[test]
 fn damaged_cases() {
-    expect_refusals(420, 200, |rng, file| {
+    expect_refusals(420, 200, Limits::CASE, |rng, file| {
         compare(file, rng.number() as u16, rng.below(200))
     });
-    expect_refusals(420, 200, |_, file| in_plain(hoidrul::work_area(file)));
+    expect_refusals(420, 200, Limits::CASE, |_, file| {
+        in_plain(hoidrul::work_area(file))
+    });
 }
 
 /// Files of which only the checkers can tell what they get; areas too short for most that are cases.
@@ -73,7 +76,7 @@ fn strange_files() {
     let mut refusals = [0; 10];
     for draw in STRANGE {
         for _ in 0..500 {
-            let (file, words) = (draw(&mut rng), rng.below(32));
+            let (file, words) = (draw(&mut rng, Limits::CASE), rng.below(32));
             if let Err(refusal) = compare(&file, rng.below(8) as u16, words) {
                 refusals[refusal.number as usize] += 1;
             }

@@ -3,7 +3,7 @@ use differential::drives::{longest, starting_in};
 use differential::padding::{write_padded, PACKED, WIDEST};
 use differential::replies::refused;
 use differential::tally::{compare, Reply};
-use plain::{pack, write, Case, Triple};
+use plain::{pack, write, Case, Limits, Triple};
 
 fn vetted(states: usize, steps: &[Triple], nodes: &[Triple]) -> Reply {
     let case = Case {
@@ -110,7 +110,7 @@ fn variables() {
 
 #[test]
 fn file_lengths() {
-    let mut case = longest();
+    let mut case = longest(Limits::CASE);
     for (gaps, length) in [(PACKED, 6385), (WIDEST, 6394)] {
         let file = write_padded(&case, gaps);
         assert_eq!(file.len(), length);
@@ -135,7 +135,7 @@ fn file_lengths() {
 /// it makes too long.
 #[test]
 fn start_states() {
-    let longest = longest();
+    let longest = longest(Limits::CASE);
     let mut short = longest.clone();
     short.steps.clear();
     for count in 0..=17 {
@@ -198,7 +198,7 @@ fn lengths_near_the_borders() {
 
 #[test]
 fn the_last_triple_is_looked_at() {
-    let mut case = longest();
+    let mut case = longest(Limits::CASE);
     case.steps[2047].1 = 8;
     assert_eq!(compare(&write(&case), 0), refused(3, 2047));
 }

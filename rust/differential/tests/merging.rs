@@ -2,10 +2,10 @@
 use differential::damage::expect_refusals;
 use differential::drives::LONGEST_PACKED;
 use differential::edits::{merge, rooms, LONGEST};
-use differential::replies::refused;
+use differential::replies::{refused, LAST_ROW};
 use differential::rng::Rng;
 use differential::{alike_tables, drives, padding};
-use plain::write;
+use plain::{write, Limits};
 
 /// Each state of the case and some beyond it.
 fn states_and_beyond(states: usize) -> Vec<usize> {
@@ -67,10 +67,10 @@ fn start_states_are_carried() {
 #[test]
 fn every_pair_of_states() {
     let mut rng = Rng::new(700);
-    let (mut merged, mut refused) = (0, [0; 14]);
+    let (mut merged, mut refused) = (0, [0; LAST_ROW + 1]);
     for i in 0..48 {
         let states = 1 + i % 16;
-        let case = alike_tables::case(&mut rng, states);
+        let case = alike_tables::case(&mut rng, Limits::CASE, states);
         let file = padding::file(&mut rng, &case);
         for s in states_and_beyond(states) {
             for t in states_and_beyond(states) {
@@ -90,7 +90,7 @@ fn every_pair_of_states() {
 fn down_to_the_classes() {
     let mut rng = Rng::new(710);
     for i in 0..150 {
-        let case = alike_tables::case(&mut rng, 1 + i % 16);
+        let case = alike_tables::case(&mut rng, Limits::CASE, 1 + i % 16);
         let mut file = padding::file(&mut rng, &case);
         loop {
             let classes = plain::classes(&file, 16).unwrap();
@@ -111,7 +111,7 @@ fn areas_of_every_length() {
     let mut tried = 0;
     while tried < 40 {
         let states = rng.within(2..=16);
-        let case = alike_tables::case(&mut rng, states);
+        let case = alike_tables::case(&mut rng, Limits::CASE, states);
         let file = padding::file(&mut rng, &case);
         let (s, t) = (rng.below(states), rng.below(states));
         if let Ok(result) = plain::merge(&file, s, t, LONGEST) {
@@ -124,7 +124,7 @@ fn areas_of_every_length() {
 /// All states are alike.
 #[test]
 fn the_longest_case() {
-    let packed = write(&drives::longest());
+    let packed = write(&drives::longest(Limits::CASE));
     let padded = padding::padded(&packed, padding::WIDEST);
     assert_eq!((packed.len(), padded.len()), (LONGEST_PACKED, LONGEST));
     for (file, s, t) in [
@@ -142,7 +142,7 @@ fn the_longest_case() {
 
 #[test]
 fn damaged_cases() {
-    expect_refusals(730, 50, |rng, file| {
+    expect_refusals(730, 50, Limits::CASE, |rng, file| {
         merge(file, rng.below(18), rng.below(18), rng.below(200))
     });
 }

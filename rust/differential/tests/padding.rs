@@ -9,7 +9,7 @@ use differential::replies::{in_plain, refused};
 use differential::rng::Rng;
 use differential::tally::{compare, Reply};
 use differential::{alike_tables, generate};
-use plain::{pack, write, Case, Edit, Refusal};
+use plain::{pack, write, Case, Edit, Limits, Refusal};
 
 /// What the entries reply, the places of sections aside.
 #[derive(Debug, PartialEq)]
@@ -63,12 +63,14 @@ fn small() -> Case {
 /// Cases with and without steps and start states, so that padding stands on both sides of an empty
 /// section and at the end of the file; the longest, in which all states are alike; random ones.
 fn cases() -> Vec<Case> {
-    let mut cases = vec![starting_in(&[1, 2], small()), small(), longest()];
+    let limits = Limits::CASE;
+    let mut cases = vec![starting_in(&[1, 2], small()), small(), longest(limits)];
     cases.extend(drives().into_iter().map(|(_, case)| case));
     let mut rng = Rng::new(980);
     for i in 0..8 {
-        cases.push(alike_tables::with_chops(&mut rng, 2 + i % 5, 24));
-        cases.push(generate::case(&mut rng));
+        let states = 2 + i % 5;
+        cases.push(alike_tables::with_chops(&mut rng, limits, states, 24));
+        cases.push(generate::case(&mut rng, limits));
     }
     cases
 }
@@ -115,7 +117,7 @@ fn sections_are_opened_in_place() {
 fn random_cases() {
     let mut rng = Rng::new(981);
     for _ in 0..500 {
-        let packed = write(&generate::case(&mut rng));
+        let packed = write(&generate::case(&mut rng, Limits::CASE));
         let file = padded(&packed, padding::numbered(rng.below(64)));
         assert_eq!(replies(&file), replies(&packed));
     }
@@ -136,10 +138,8 @@ fn edits_write_packed_files() {
         nodes: vec![(2, 0, 0), (0, 0, 0), (9, 1, 0)],
         ..case.clone()
     };
-    let (merge, law_9) = (
-        Edit::Merge { s: 1, t: 0 },
-        Edit::Rewrite { law: 9, node: 2 },
-    );
+    let merge = Edit::Merge { s: 1, t: 0 };
+    let law_9 = Edit::Rewrite { law: 9, node: 2 };
     for gaps in all() {
         let file = padded(&write(&case), gaps);
         for (change, result) in [(merge, write(&merged)), (law_9, write(&rewritten))] {
@@ -219,15 +219,9 @@ fn a_gap_is_at_most_three_bytes_wide() {
 
 #[test]
 fn every_byte_of_a_gap_is_0() {
+    let some = [[1; 3], [2; 3], WIDEST, [0, 3, 1], [3, 0, 0], [0, 0, 2]];
     for case in cases().iter().filter(|case| case.steps.len() < 100) {
-        for gaps in [
-            [1, 1, 1],
-            [2, 2, 2],
-            WIDEST,
-            [0, 3, 1],
-            [3, 0, 0],
-            [0, 0, 2],
-        ] {
+        for gaps in some {
             let file = padding::write_padded(case, gaps);
             for at in padding::padding_of(&file) {
                 for byte in [1, 128, 255] {
@@ -273,7 +267,7 @@ fn no_padding_before_the_first_section_or_after_the_last() {
 /// Rows 2 to 7 come with their places.
 #[test]
 fn other_refusals_stay() {
-    for (file, refusal) in refused_files().into_iter().skip(1) {
+    for (file, refusal) in refused_files(Limits::CASE).into_iter().skip(1) {
         let expected = replies(&file);
         for gaps in all() {
             let file = padded(&file, gaps);
@@ -286,7 +280,7 @@ fn other_refusals_stay() {
 /// The longest case, and labels alone, which are too many for a case but not for row 1.
 #[test]
 fn the_longest_file() {
-    let file = padding::write_padded(&longest(), WIDEST);
+    let file = padding::write_padded(&longest(Limits::CASE), WIDEST);
     assert_eq!(file.len(), 6394);
     assert_eq!(sections(&file), [16..32, 35..6179, 6182..6375, 6378..6394]);
     for section in 0..4 {

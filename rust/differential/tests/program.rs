@@ -6,7 +6,7 @@ use differential::generate;
 use differential::padding::{self, padded, WIDEST};
 use differential::printed::{wanted, WORDS};
 use differential::rng::Rng;
-use plain::{vet, write, Case, Triple};
+use plain::{vet, write, Case, Limits, Triple};
 use std::io::{ErrorKind, Write};
 use std::path::Path;
 use std::process::{Command, Stdio};
@@ -90,7 +90,7 @@ fn no_input() {
 /// The longest case, packed and padded, and input that is longer.
 #[test]
 fn long_input() {
-    let packed = write(&longest());
+    let packed = write(&longest(Limits::CASE));
     let file = padded(&packed, WIDEST);
     assert_eq!((packed.len(), file.len()), (6_385, 6_394));
     assert_eq!(check(&packed), "refused 9 0\n");
@@ -162,7 +162,7 @@ fn no_start_state() {
 
 #[test]
 fn damaged_inputs() {
-    expect_refusals(500, 5, |_, file| {
+    expect_refusals(500, 5, Limits::CASE, |_, file| {
         check(file);
         vet(file, 0)
     });
@@ -178,7 +178,7 @@ fn random_cases() {
             nesting: 3,
             depth: 4,
         };
-        let case = formulas::case(&mut rng, bounds);
+        let case = formulas::case(&mut rng, Limits::CASE, bounds);
         let print = check(&padding::file(&mut rng, &case));
         no += usize::from(print.ends_with("\nstarts no\n"));
         yes += usize::from(print.ends_with("\nstarts yes\n"));
@@ -192,7 +192,7 @@ fn random_cases_refused() {
     let mut rng = Rng::new(540);
     let large = |case: &Case| 2 * case.nodes.len() * (1 << case.labels.len()) > WORDS;
     for _ in 0..30 {
-        let case = generate::case_where(&mut rng, large);
+        let case = generate::case_where(&mut rng, Limits::CASE, large);
         let file = padding::file(&mut rng, &case);
         assert_eq!(check(&file), "refused 9 0\n");
     }

@@ -6,14 +6,14 @@ use differential::replies::refused;
 use differential::rng::Rng;
 use differential::strange::{section, STRANGE};
 use differential::tally::Tally;
-use plain::parse;
+use plain::{parse, Limits};
 
 #[test]
 fn valid_cases() {
     let mut rng = Rng::new(1);
     let mut tally = Tally::default();
     for _ in 0..40_000 {
-        let case = case(&mut rng);
+        let case = case(&mut rng, Limits::CASE);
         let file = padding::file(&mut rng, &case);
         let section = section(&mut rng);
         let counts = (case.labels.len(), case.nodes.len());
@@ -36,7 +36,9 @@ fn valid_cases() {
 #[test]
 fn damaged_cases() {
     let mut tally = Tally::default();
-    expect_refusals(100, 3_000, |rng, file| tally.compare(file, section(rng)));
+    expect_refusals(100, 3_000, Limits::CASE, |rng, file| {
+        tally.compare(file, section(rng))
+    });
     println!("{tally:?}");
     assert_eq!(tally.calls, 180_000);
     for row in 1..=7 {
@@ -53,7 +55,7 @@ fn strange_files() {
     for (seed, draw) in (200..).zip(STRANGE) {
         let mut rng = Rng::new(seed);
         for _ in 0..10_000 {
-            let _ = tally.compare(&draw(&mut rng), section(&mut rng));
+            let _ = tally.compare(&draw(&mut rng, Limits::CASE), section(&mut rng));
         }
     }
     println!("{tally:?}");

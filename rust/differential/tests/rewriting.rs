@@ -3,11 +3,11 @@ use differential::damage::expect_refusals;
 use differential::edits::{rewrite, rooms, LONGEST};
 use differential::formulas::{self, Bounds};
 use differential::padding::{numbered, write_padded};
-use differential::replies::refused;
+use differential::replies::{refused, LAST_ROW};
 use differential::rng::Rng;
 use differential::{chops, drives, generate};
 use plain::kinds::{self, values_of_a, AND, CHOP, MU, NU, OR, VARIABLE};
-use plain::{write, Case, Refusal, Shape, Triple};
+use plain::{write, Case, Limits, Refusal, Shape, Triple};
 
 /// The laws and numbers that are none, some of them right modulo a power of two.
 const LAWS: [usize; 14] = [
@@ -31,7 +31,7 @@ const LAWS: [usize; 14] = [
 struct Count {
     /// By law, 1 to 9.
     answers: [usize; 10],
-    refusals: [usize; 14],
+    refusals: [usize; LAST_ROW + 1],
 }
 
 impl Count {
@@ -74,10 +74,10 @@ fn random_rules() {
             nesting: 2,
             depth: 4,
         };
-        let case = formulas::case(&mut rng, bounds);
+        let case = formulas::case(&mut rng, Limits::CASE, bounds);
         count.everywhere(&case);
         count.everywhere(&chops::put_into(&mut rng, case, 64));
-        count.everywhere(&generate::case_where(&mut rng, |case| {
+        count.everywhere(&generate::case_where(&mut rng, Limits::CASE, |case| {
             case.steps.len() <= 30
         }));
     }
@@ -293,7 +293,7 @@ fn areas_of_every_length() {
 
 #[test]
 fn damaged_cases() {
-    expect_refusals(830, 50, |rng, file| {
+    expect_refusals(830, 50, Limits::CASE, |rng, file| {
         rewrite(file, rng.below(11), rng.below(66), rng.below(200))
     });
 }

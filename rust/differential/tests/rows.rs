@@ -4,7 +4,7 @@ use differential::drives;
 use differential::f_changed::{f_with, refused_files};
 use differential::replies::refused;
 use differential::tally::compare;
-use plain::{pack, write, Case};
+use plain::{pack, write, Case, Limits};
 
 #[test]
 fn case_f_is_answered() {
@@ -15,7 +15,7 @@ fn case_f_is_answered() {
 
 #[test]
 fn examples_of_the_table() {
-    for (file, refusal) in refused_files() {
+    for (file, refusal) in refused_files(Limits::CASE) {
         assert_eq!(compare(&file, 0), Err(refusal));
     }
     // The example of row 8 is a set; vetting has the section number.

@@ -7,7 +7,7 @@ use differential::judging::{all_states, compare, compare_starts, needed, number_
 use differential::padding;
 use differential::replies::refused;
 use differential::rng::Rng;
-use plain::write;
+use plain::{write, Limits};
 
 /// Every list of four states: all of them have to be in the set of those that hold.
 #[test]
@@ -19,7 +19,7 @@ fn every_list() {
             nesting: 2,
             depth: 3,
         };
-        let case = formulas::case(&mut rng, bounds);
+        let case = formulas::case(&mut rng, Limits::CASE, bounds);
         let file = write(&case);
         let verdict = compare(&file, all_states(4), needed(&file)).unwrap();
         let holding = number_of(&verdict.states);
@@ -56,7 +56,7 @@ fn random_cases() {
             nesting: 2,
             depth: 3,
         };
-        let case = formulas::case(&mut rng, bounds);
+        let case = formulas::case(&mut rng, Limits::CASE, bounds);
         let file = padding::file(&mut rng, &case);
         let needed = needed(&file);
         let word = compare_starts(&file, needed).unwrap();
@@ -72,7 +72,9 @@ fn random_cases() {
 
 #[test]
 fn damaged_cases() {
-    expect_refusals(960, 100, |rng, file| compare_starts(file, rng.below(200)));
+    expect_refusals(960, 100, Limits::CASE, |rng, file| {
+        compare_starts(file, rng.below(200))
+    });
 }
 
 /// Lists of every sort come up in random cases.
@@ -81,7 +83,7 @@ fn lists_that_are_drawn() {
     let mut rng = Rng::new(952);
     let (mut none, mut all, mut some) = (0, 0, 0);
     for _ in 0..1_000 {
-        let case = generate::case_where(&mut rng, |case| case.labels.len() > 1);
+        let case = generate::case_where(&mut rng, Limits::CASE, |case| case.labels.len() > 1);
         match case.starts.len() {
             0 => none += 1,
             listed if listed == case.labels.len() => all += 1,

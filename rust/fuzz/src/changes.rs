@@ -2,23 +2,23 @@
 use differential::groups;
 use differential::padding::{self, gaps, padded, padding_of, sections};
 use differential::rng::Rng;
-use plain::{pack, PAIRS_LENGTH};
+use plain::{pack, parse_within, Limits, MOST_PADDING, PAIRS_LENGTH};
 
-/// One to three changes.
-pub fn change(rng: &mut Rng, file: &mut Vec<u8>) {
+/// One to three changes of a file that was drawn within the limits.
+pub fn change(rng: &mut Rng, limits: Limits, file: &mut Vec<u8>) {
     for _ in 0..rng.within(1..=3) {
         match rng.below(12) {
             0 => flip(rng, file),
             1..=2 => border_byte(rng, file),
-            3 => border_pair(rng, file),
+            3 => border_pair(rng, limits, file),
             4 => cut(rng, file),
-            5 => lengthen(rng, file),
-            6 => group(rng, file),
-            7 => start(rng, file),
-            8 => lay_anew(rng, file),
-            9 => padding_byte(rng, file),
-            10 => root(rng, file),
-            _ => section(rng, file),
+            5 => lengthen(rng, limits, file),
+            6 => group(rng, limits, file),
+            7 => start(rng, limits, file),
+            8 => lay_anew(rng, limits, file),
+            9 => padding_byte(rng, limits, file),
+            10 => root(rng, limits, file),
+            _ => section(rng, limits, file),
         }
     }
 }
@@ -46,8 +46,10 @@ fn border_byte(rng: &mut Rng, file: &mut [u8]) {
 }
 
 /// An offset or a length at a border.
-fn border_pair(rng: &mut Rng, file: &mut [u8]) {
-    const BORDERS: [usize; 11] = [0, 1, 15, 16, 17, 255, 256, 6385, 6394, 32_768, 65_535];
+fn border_pair(rng: &mut Rng, limits: Limits, file: &mut [u8]) {
+    const BORDERS: [usize; 9] = [0, 1, 15, 16, 17, 255, 256, 32_768, 65_535];
+    let longest = limits.longest_file;
+    let longest_packed = longest - 3 * MOST_PADDING;
     let length = file.len();
     let at = 2 * rng.below(PAIRS_LENGTH / 2);
     if let Some(number) = file.get_mut(at..at + 2) {
@@ -56,7 +58,7 @@ fn border_pair(rng: &mut Rng, file: &mut [u8]) {
         let value = if rng.one_in(2) {
             rng.pick(&near)
         } else {
-            rng.pick(&BORDERS)
+            rng.pick(&[&BORDERS[..], &[longest_packed, longest]].concat())
         };
         number.copy_from_slice(&(value as u16).to_le_bytes());
     }
@@ -68,17 +70,23 @@ fn cut(rng: &mut Rng, file: &mut Vec<u8>) {
     file.truncate(left);
 }
 
-fn lengthen(rng: &mut Rng, file: &mut Vec<u8>) {
-    let more = if rng.one_in(8) { 7_000 } else { 4 };
-    let more = rng.within(1..=more);
+/// By some bytes, or by many, at times past the longest.
+fn lengthen(rng: &mut Rng, limits: Limits, file: &mut Vec<u8>) {
+    let most = if rng.one_in(8) {
+        limits.longest_file / 10 * 11
+    } else {
+        4
+    };
+    let more = rng.within(1..=most);
     file.extend(rng.bytes(more));
 }
 
 /// A node that gets a group, its unused byte at times not 0, if the file is still a case.
-fn group(rng: &mut Rng, file: &mut [u8]) {
-    let Ok(rule) = plain::open(file, 2) else {
+fn group(rng: &mut Rng, limits: Limits, file: &mut [u8]) {
+    if parse_within(file, limits).is_err() {
         return;
-    };
+    }
+    let [_, _, rule, _] = sections(file);
     let at = rule.start + 3 * rng.below(rule.len() / 3);
     let (kind, group, unused) = groups::node(rng);
     let b = if rng.one_in(4) { rng.byte() } else { unused };
@@ -86,15 +94,16 @@ fn group(rng: &mut Rng, file: &mut [u8]) {
 }
 
 /// Another root, which reaches other nodes, if the file is still a case.
-fn root(rng: &mut Rng, file: &mut [u8]) {
-    if let Ok(rule) = plain::open(file, 2) {
-        file[rule.end - 1] = rng.byte_below(rule.len() / 3 + 1);
+fn root(rng: &mut Rng, limits: Limits, file: &mut [u8]) {
+    if let Ok(case) = parse_within(file, limits) {
+        let [_, _, rule, _] = sections(file);
+        file[rule.end - 1] = rng.byte_below(case.nodes.len() + 1);
     }
 }
 
 /// A byte more in the list of start states, in its place or not, if the file is still a case.
-fn start(rng: &mut Rng, file: &mut Vec<u8>) {
-    let Ok(mut case) = plain::parse(file) else {
+fn start(rng: &mut Rng, limits: Limits, file: &mut Vec<u8>) {
+    let Ok(mut case) = parse_within(file, limits) else {
         return;
     };
     let state = rng.byte_below(case.labels.len() + 2);
@@ -108,8 +117,8 @@ fn start(rng: &mut Rng, file: &mut Vec<u8>) {
 }
 
 /// The sections end to end, or some bytes 0 apart, at times too many, if the file is still a case.
-fn lay_anew(rng: &mut Rng, file: &mut Vec<u8>) {
-    let Ok(case) = plain::parse(file) else {
+fn lay_anew(rng: &mut Rng, limits: Limits, file: &mut Vec<u8>) {
+    let Ok(case) = parse_within(file, limits) else {
         return;
     };
     let mut gaps = gaps(rng);
@@ -120,8 +129,8 @@ fn lay_anew(rng: &mut Rng, file: &mut Vec<u8>) {
 }
 
 /// A byte of the padding that is any other, if the file is still a case and has some.
-fn padding_byte(rng: &mut Rng, file: &mut [u8]) {
-    if plain::parse(file).is_err() {
+fn padding_byte(rng: &mut Rng, limits: Limits, file: &mut [u8]) {
+    if parse_within(file, limits).is_err() {
         return;
     }
     let padding = padding_of(file);
@@ -131,15 +140,15 @@ fn padding_byte(rng: &mut Rng, file: &mut [u8]) {
 }
 
 /// A section cut or lengthened under right pairs, if the file is still a case.
-fn section(rng: &mut Rng, file: &mut Vec<u8>) {
-    if plain::parse(file).is_err() {
+fn section(rng: &mut Rng, limits: Limits, file: &mut Vec<u8>) {
+    if parse_within(file, limits).is_err() {
         return;
     }
     let mut parts = sections(file).map(|part| file[part].to_vec());
     let part = &mut parts[rng.below(4)];
     let (back, more) = (rng.below(4), rng.below(4));
     part.truncate(part.len().saturating_sub(back));
-    part.extend(rng.bytes(more).iter().map(|byte| byte % 16));
+    part.extend((0..more).map(|_| rng.byte_below(limits.most_states)));
     *file = padded(&pack(&parts.each_ref().map(Vec::as_slice)), gaps(rng));
 }
 
@@ -157,9 +166,10 @@ mod tests {
     fn short_files() {
         let mut rng = Rng::new(1);
         for length in 0..=2 * PAIRS_LENGTH {
-            for _ in 0..500 {
+            for i in 0..500 {
                 let mut file = rng.bytes(length);
-                change(&mut rng, &mut file);
+                let limits = [Limits::CASE, Limits::WIDEST][i % 2];
+                change(&mut rng, limits, &mut file);
             }
         }
     }

@@ -13,6 +13,7 @@ mod replies;
 pub use replies::{Entry, Replies};
 
 use differential::rng::Rng;
+use plain::Limits;
 use std::thread::panicking;
 
 /// Makes at least so many calls. The rounds are drawn from `seed`, `seed` + 1 and so on, so that
@@ -28,12 +29,13 @@ pub fn run(count: usize, seed: u64) -> Replies {
     replies
 }
 
-/// A list of edits every sixth time; then every entry on the file that it led to, or on any.
+/// A list of edits every sixth time; then every entry on the file that it led to, or on any. At times
+/// the file would be a case if the limits were wider.
 fn round(rng: &mut Rng, replies: &mut Replies) {
-    let file = if rng.one_in(6) {
-        list::edits(rng, replies)
-    } else {
-        files::any(rng)
+    let file = match rng.below(24) {
+        0..=3 => list::edits(rng, replies),
+        4 => files::any(rng, Limits::WIDEST),
+        _ => files::any(rng, Limits::CASE),
     };
     entries::every(rng, &file, replies);
 }

@@ -5,13 +5,13 @@ use differential::edits::turn;
 use differential::judging::{all_states, compare, compare_starts, needed};
 use differential::padding;
 use differential::rng::Rng;
-use plain::Book;
+use plain::{Book, Limits};
 
 /// Makes up to 12 edits of a case, and returns the file that they lead to. Each state of the first
 /// case must hold if and only if the state standing for it does, and every start state of the last
 /// case if and only if every one of the first did.
 pub fn edits(rng: &mut Rng, replies: &mut Replies) -> Vec<u8> {
-    let case = files::with_alike_states(rng);
+    let case = files::with_alike_states(rng, Limits::CASE);
     let first = padding::file(rng, &case);
     let mut book = Book::new(&first).expect("a valid case");
     let mut file = first.clone();

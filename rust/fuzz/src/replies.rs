@@ -1,4 +1,5 @@
 //! How often each entry replied what.
+use differential::replies::LAST_ROW;
 use plain::Refusal;
 use std::fmt;
 
@@ -37,7 +38,7 @@ impl Entry {
 
 /// For each entry the answers and, by number, the refusals.
 #[derive(Debug, Default)]
-pub struct Replies([[usize; 14]; 6]);
+pub struct Replies([[usize; LAST_ROW + 1]; Entry::ALL.len()]);
 
 impl Replies {
     pub fn count<A>(&mut self, entry: Entry, reply: &Result<A, Refusal>) {
@@ -61,7 +62,7 @@ impl Replies {
 impl fmt::Display for Replies {
     fn fmt(&self, f: &mut fmt::Formatter<'_>) -> fmt::Result {
         write!(f, "{:<8} {:>8} {:>8}", "entry", "calls", "answers")?;
-        (1..=13).try_for_each(|number| write!(f, " {number:>7}"))?;
+        (1..=LAST_ROW).try_for_each(|number| write!(f, " {number:>7}"))?;
         for entry in Entry::ALL {
             let counts = &self.0[entry as usize];
             let name = format!("{entry:?}").to_lowercase();

@@ -1,14 +1,14 @@
 //! Judging: the root's function at a set of states, and whether the start states hold.
 use crate::refusal::answer;
-use crate::{ffi, open, vet, Refusal, LABELS, MOST_STATES, STARTS};
+use crate::{ffi, open, vet, Refusal, StateSet, LABELS, STARTS};
 
 /// What judging answers.
 #[must_use]
 #[derive(Clone, Copy, Debug, PartialEq, Eq, Hash)]
 #[non_exhaustive]
 pub struct Verdict {
-    /// The root's function at the given set: bit i is state i.
-    pub set: u16,
+    /// The root's function at the given set.
+    pub states: StateSet,
     /// The least k whose approximant of the root equals the next at every set; 0 where the root
     /// is no binder.
     pub rounds: u64,
@@ -19,7 +19,7 @@ impl Verdict {
     /// beyond the case is not.
     #[must_use]
     pub fn holds(self, state: usize) -> bool {
-        state < MOST_STATES && self.set >> state & 1 == 1
+        self.states.contains(state)
     }
 }
 
@@ -48,7 +48,7 @@ impl Verdict {
 /// ];
 /// let mut work = vec![7; hoidrul::work_area(&file)?];
 /// let verdict = hoidrul::judge(&file, 0b10, &mut work)?;
-/// assert_eq!((verdict.set, verdict.rounds), (0b11, 2));
+/// assert_eq!((verdict.states, verdict.rounds), (0b11_u16.into(), 2));
 /// assert!(work.iter().all(|&word| word == 0));
 /// assert!(verdict.holds(0) && verdict.holds(1) && !verdict.holds(2));
 ///
@@ -62,7 +62,7 @@ impl Verdict {
 pub fn judge(file: &[u8], set: u16, work: &mut [u16]) -> Result<Verdict, Refusal> {
     let reply = answer(ffi::judge(file, set, work))?;
     Ok(Verdict {
-        set: reply as u16,
+        states: (reply as u16).into(),
         rounds: reply >> 16,
     })
 }

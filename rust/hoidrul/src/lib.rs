@@ -57,6 +57,7 @@ mod judging;
 mod limits;
 mod refusal;
 mod sections;
+mod state_set;
 
 pub use edits::{classes, merge, rewrite};
 pub use judging::{judge, starts_hold, work_area, Verdict};
@@ -66,6 +67,7 @@ pub use limits::{
 };
 pub use refusal::{Reason, Refusal, UnknownReason};
 pub use sections::{open, vet, Counts, LABELS, RULE, STARTS, STEPS};
+pub use state_set::StateSet;
 
 /// The snippets of docs/ENTRIES.md.
 #[cfg(doctest)]

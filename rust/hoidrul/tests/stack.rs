@@ -72,9 +72,8 @@ fn replies(file: &[u8]) -> Vec<Result<Vec<u8>, Refusal>> {
         let all = hoidrul::vet(file, LABELS)?.all_states();
         let mut work = vec![0; hoidrul::work_area(file)?];
         let verdict = hoidrul::judge(file, all, &mut work)?;
-        Ok([verdict.set.into(), verdict.rounds]
-            .map(u64::to_le_bytes)
-            .concat())
+        let states = verdict.states.to_u64().expect("16 states at most");
+        Ok([states, verdict.rounds].map(u64::to_le_bytes).concat())
     };
     vec![
         hoidrul::vet(file, RULE).map(|counts| vec![counts.states as u8, counts.nodes as u8]),

@@ -3,10 +3,13 @@ use crate::alike::lowest;
 use crate::case::{Case, Triple};
 use crate::looks::Looks;
 
-/// For each state the lowest that some bisimulation relates to it. There are 2^(n × n) relations,
-/// so this is for four states at most.
+/// For each state the lowest that some bisimulation relates to it. There are 2^(n × n) relations.
+///
+/// # Panics
+/// If rows 1 to 7 meet the case, or it has more than four states.
 pub fn classes_by_all_relations(case: &Case) -> Vec<u8> {
     let states = case.labels.len();
+    assert!(states <= 4, "too many relations");
     let looks = Looks::of(case);
     let bisimulations = (0_u32..1 << (states * states))
         .map(|number| Numbered { number, states })

@@ -35,4 +35,4 @@ pub use merging::merge;
 pub use node::{kinds, members, Shape};
 pub use refusal::Refusal;
 pub use rewriting::rewrite;
-pub use vetting::{open, parse, vet, PAIRS_LENGTH};
+pub use vetting::{open, parse, parse_within, vet, Limits, MOST_NODES, MOST_PADDING, PAIRS_LENGTH};

@@ -3,6 +3,7 @@ use crate::case::Case;
 use crate::model::Model;
 use crate::node::Node;
 use crate::sets::{at, tabulate, Function, Set};
+use crate::vetting::Limits;
 use std::collections::BTreeMap;
 
 /// What the root means.
@@ -15,8 +16,12 @@ pub struct Meaning {
 /// The root's function at every set, and its rounds.
 ///
 /// # Panics
-/// If rows 1 to 7 meet the case.
+/// If rows 1 to 7 meet the case, as they do where it has more than 16 states.
 pub fn meaning(case: &Case) -> Meaning {
+    assert!(
+        case.labels.len() <= Limits::CASE.most_states,
+        "too many sets"
+    );
     let model = Model::new(case);
     let mut closed = Scope::new(&model, BTreeMap::new());
     let (function, rounds) = match model.nodes[model.root] {

@@ -9,11 +9,11 @@ const SECTIONS: usize = 4;
 /// The bytes of the head: an offset and a length for each section.
 pub const PAIRS_LENGTH: usize = 4 * SECTIONS;
 /// The most bytes between a section and the next.
-const MOST_PADDING: usize = 3;
+pub const MOST_PADDING: usize = 3;
 pub const MOST_NODES: usize = 64;
 const HIGHEST_ACTION: u8 = 7;
 
-/// How large a file may be. The format itself has room for more than a case may have.
+/// How large a file may be, and its table. The format itself has room for more than a case may have.
 #[derive(Clone, Copy, Debug)]
 pub struct Limits {
     pub longest_file: usize,
@@ -25,6 +25,12 @@ impl Limits {
     pub const CASE: Limits = Limits {
         longest_file: 6394,
         most_states: 16,
+    };
+
+    /// The widest: one byte tells a state's number, and two tell where a section begins.
+    pub const WIDEST: Limits = Limits {
+        longest_file: 65_535,
+        most_states: 256,
     };
 }
 
@@ -163,30 +169,6 @@ fn triples(bytes: &[u8]) -> Vec<Triple> {
 mod tests {
     use super::*;
     use crate::case::write;
-
-    /// A state more than a case may have, and a file as long as the limit or longer.
-    #[test]
-    fn limits_are_those_given() {
-        let case = Case {
-            labels: vec![0; 17],
-            steps: vec![(16, 0, 16)],
-            nodes: vec![(5, 0, 0)],
-            root: 0,
-            starts: vec![16],
-        };
-        let file = write(&case);
-        let within = |longest_file, most_states| {
-            let limits = Limits {
-                longest_file,
-                most_states,
-            };
-            parse_within(&file, limits)
-        };
-        assert_eq!(parse(&file), Err(Refusal::new(2, 0)));
-        assert_eq!(within(file.len(), 17), Ok(case));
-        assert_eq!(within(file.len(), 16), Err(Refusal::new(2, 0)));
-        assert_eq!(within(file.len() - 1, 17), Err(Refusal::new(1, 0)));
-    }
 
     /// On a table of three states; the refusal's number.
     fn with_starts(starts: &[u8], node: Triple) -> Result<Vec<u8>, u32> {

@@ -3,7 +3,7 @@ use crate::calls::{folder, in_words, script, shells, Outcome, Wrapper, NO_START}
 use differential::drives::{case, drives, folder as cases, longest, read, starting_in};
 use differential::padding::{all, write_padded, WIDEST};
 use differential::printed::wanted;
-use plain::parse;
+use plain::{parse, Limits};
 use std::env;
 use std::fs;
 use std::os::unix::fs::symlink;
@@ -181,7 +181,7 @@ fn help() {
 #[test]
 fn refusals() {
     let wrapper = wrapper("refusals");
-    let longest = write_padded(&longest(), WIDEST);
+    let longest = write_padded(&longest(Limits::CASE), WIDEST);
     let too_large = Answer::to(&longest);
     assert_eq!(too_large.print, "refused 9 0\n");
     each_answers(&wrapper, "judge", &longest, &too_large);
