@@ -16,13 +16,13 @@ use Rattle.flc.proofs.Masks.{setOf-lt}
 use Rattle.case_model.specs.Bytes.{byteAt}
 use Rattle.case_model.specs.Case.{Case, read, write, table}
 use Rattle.case_model.specs.Kinds.{Triple}
-use Rattle.case_model.specs.Rows.{sound, _orElse_, unless, refusals}
+use Rattle.case_model.specs.Rows.{sound, refusals}
 use Rattle.case_model.specs.Limits.{mostNodes, standard}
-use Rattle.case_model.specs.Replies.{Reply, answers, refuses, row13}
+use Rattle.case_model.specs.Replies.{Reply, answers, refuses}
 use Rattle.case_model.specs.Judging.{verdict, row9}
 use Rattle.case_model.specs.Looking.{looked}
 use Rattle.case_model.specs.Merging.{moved, merge, merging}
-use Rattle.case_model.specs.Rewriting.{Change, nothing, swap, change, isThere, rewrite, row12, rewriting}
+use Rattle.case_model.specs.Rewriting.{Change, nothing, swap, change, isThere, rewrite, rewritten, rewriting}
 use Rattle.case_model.specs.Book.{Edit, merges, rewrites, Book, begun, reply, restood, entered, turn, book}
 use Rattle.case_model.specs.Run.{allStates, holds, everyStart, startsHold}
 use Rattle.case_model.proofs.Tests.{and-l, and-r}
@@ -128,13 +128,14 @@ module _ (f : List ℕ) (ok : refusals standard f ≡ sound) where
   unfolding rewriting
   rewriting-stands law j room new e =
       let (_, x, q) = answered standard f _ _ e in
-      subst (λ z. Stands f z (λ s. s)) q (go (change (c .nodes) law j) refl x)
+      let there : isThere (change (c .nodes) law j) ≡ true = search rows depth 6 in
+      let few : length (rewritten law j c .nodes) ≤ mostNodes = leb-true _ _ (search rows depth 6) in
+      subst (λ z. Stands f z (λ s. s)) q (go (change (c .nodes) law j) refl there few)
     where
-      go : (e : Change) → change (c .nodes) law j ≡ e
-          → unless (isThere e) 11 0 orElse row12 (rewrite c j e) orElse row13 (write (rewrite c j e)) room ≡ sound
+      go : (e : Change) → change (c .nodes) law j ≡ e → isThere e ≡ true → length (rewrite c j e .nodes) ≤ mostNodes
           → Stands f (write (rewrite c j e)) (λ s. s)
-      go nothing is x = let z : _≡_ {A = ℕ} 0 1 = cc in absurd (omega arith)
-      go (swap l g) is x = rewrite-stands law j is (leb-true _ _ (search rows depth 10))
+      go nothing is there few = absurd (subst T (sym there) tt)
+      go (swap l g) is there few = rewrite-stands law j is few
 
   -- ---- an edit
   edit-stands : (e : Edit) (new : List ℕ) → reply f e ≡ answers new → Stands f new (restood e)

@@ -11,8 +11,9 @@ use Rattle.flc.specs.Nodes.{leaf, lower, formulaAt}
 use Rattle.case_model.specs.Bytes.{listOf, padding, chained, pairsHold, section, packed}
 use Rattle.case_model.specs.Case.{flat, write, nodeAt, rule}
 use Rattle.case_model.specs.Kinds.{Triple, kinds, kindAt, nodeOf, nodeHolds}
+use Rattle.case_model.specs.Limits.{standard}
 use Rattle.case_model.specs.Rows.{lowest, rootClosed, refusals}
-use Rattle.case_model.specs.Replies.{replying, answers, refuses, vetting, opening}
+use Rattle.case_model.specs.Replies.{answers, refuses, replying, accepting, vetting, opening}
 
 -- the file of a case, with start states and without
 abbrev pub startingAt : List ℕ → List ℕ → List Triple → List Triple → ℕ → List ℕ
@@ -34,6 +35,9 @@ nodes =
 
 abbrev pub F : List ℕ
 F = caseOf labels steps nodes 9
+
+abbrev seventeen : List ℕ
+seventeen = startingAt (16 ∷ []) (replicate 17 0) ((16, 7, 16) ∷ []) ((5, 0, 0) ∷ []) 0
 
 -- the bytes of case F
 bytes : F ≡
@@ -67,6 +71,16 @@ rows :
 unfolding write packed vetting replying refusals pairsHold chained padding section
     listOf lowest first forAll forSome both either rootClosed rule formulaAt lower nodeAt kindAt kinds free
 rows = (refl, refl, refl, refl, refl, refl, refl, refl, refl, refl, refl, refl, refl, refl)
+
+-- a case of 17 states, with a step and a start state at the last of them, in 41 bytes: within wide limits, within those of the entries, and where a byte
+-- less is allowed
+limits :
+    (accepting (record { longest = 65535; states = 256 }) seventeen ≡ answers (record { states = 17; nodes = 1 }))
+    × (accepting standard seventeen ≡ refuses 2 0)
+    × (accepting (record { longest = 40; states = 17 }) seventeen ≡ refuses 1 0)
+unfolding write packed accepting replying refusals pairsHold chained padding section
+    listOf lowest first forAll forSome both either rootClosed rule formulaAt lower nodeAt kindAt kinds free
+limits = (refl, refl, refl)
 
 -- the kinds that look at steps: action 7 is the group 128, and 129 is {0, 7}
 modalities :

@@ -150,7 +150,7 @@ fn the_program_itself() {
     repository.checks(1);
     repository.remove(PROGRAM);
     repository.checks(1);
-    repository.put(PROGRAM, "#!/bin/sh\nprintf 'states 0\\nrounds 0\\n'\n");
+    repository.put_program(PROGRAM, "#!/bin/sh\nprintf 'states 0\\nrounds 0\\n'\n");
     repository.checks(1);
     let program = repository.root.join(PROGRAM);
     fs::set_permissions(program, Permissions::from_mode(0o644)).expect("permissions set");
@@ -188,9 +188,9 @@ fn not_proved() {
 #[test]
 fn a_strange_rt() {
     let repository = Repository::new("strange rt");
-    repository.put("bin/rt", "#!/bin/sh\n");
+    repository.put_program("bin/rt", "#!/bin/sh\n");
     repository.call().ends_in_trouble("has not built");
-    repository.put("bin/rt", RT);
+    repository.put_program("bin/rt", RT);
     repository.checks(1);
     repository.remove("version");
     repository.call().ends_in_trouble("judge_case");

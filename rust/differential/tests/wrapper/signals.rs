@@ -3,8 +3,7 @@ use crate::calls::Wrapper;
 use crate::inputs::wrapper;
 use crate::running::{all_shells, signals, slow, until, wrapper_of_slow, Call, JUDGE, TERM};
 use crate::stub::{answer, Repository};
-use std::fs::{self, Permissions};
-use std::os::unix::fs::PermissionsExt;
+use std::fs;
 use std::thread::sleep;
 use std::time::Duration;
 
@@ -145,9 +144,7 @@ fn a_command_in_the_foreground() {
         let file = |name: &str| repository.root.join(name);
         let command = format!("bin/{name}");
         let wait = "until [ -e go ]; do sleep 0.01; done";
-        repository.put(&command, &format!("#!/bin/sh\n: >asked\n{wait}\n"));
-        let all = Permissions::from_mode(0o755);
-        fs::set_permissions(file(&command), all).expect("permissions set");
+        repository.put_program(&command, &format!("#!/bin/sh\n: >asked\n{wait}\n"));
         for shell in all_shells() {
             for signal in &signals {
                 let text = format!("exec {by} $BY \"$JUDGE\" /dev/null");

@@ -2,9 +2,10 @@
 use crate::calls::{folder, script, Outcome, Wrapper};
 use std::env;
 use std::ffi::OsString;
-use std::fs::{self, Permissions};
-use std::os::unix::fs::PermissionsExt;
+use std::fs;
+use std::io::Write;
 use std::path::PathBuf;
+use std::process::{Command, Stdio};
 
 /// Says that it was called, and what was left to it on standard input. As rt, it trusts its stamp and
 /// does not look at the program. The program prints as many rounds as the crate `low` says.
@@ -46,8 +47,9 @@ impl Repository {
             path,
             temporary: root.join("temporary"),
         };
-        fs::copy(script(), &wrapper.script).expect("the script copied");
         let repository = Repository { root, wrapper };
+        let judge = fs::read_to_string(script()).expect("the script");
+        repository.put_program("judge", &judge);
         repository.fill();
         repository
     }
@@ -61,15 +63,29 @@ impl Repository {
         self.put("crates/judge_case/stdin", "case");
         self.put("crates/high/src/lib", "high");
         self.put("version", "kit 1");
-        self.put("bin/rt", RT);
-        let all = Permissions::from_mode(0o755);
-        fs::set_permissions(self.root.join("bin/rt"), all).expect("permissions set");
+        self.put_program("bin/rt", RT);
     }
 
     pub fn put(&self, name: &str, text: &str) {
         let file = self.root.join(name);
         fs::create_dir_all(file.parent().expect("a folder")).expect("a folder");
         fs::write(file, text).expect("a file written");
+    }
+
+    /// A program, which a process of its own writes: what this one writes is open for a moment in each
+    /// child that another thread forks, and cannot be run then.
+    pub fn put_program(&self, name: &str, text: &str) {
+        let mut writer = Command::new("sh")
+            .args(["-c", r#"cat >"$0" && chmod 755 "$0""#])
+            .arg(self.root.join(name))
+            .stdin(Stdio::piped())
+            .spawn()
+            .expect("sh");
+        let mut input = writer.stdin.take().expect("its input");
+        let written = input.write_all(text.as_bytes());
+        drop(input);
+        written.expect("a program written");
+        assert!(writer.wait().expect("its end").success());
     }
 
     pub fn remove(&self, name: &str) {
