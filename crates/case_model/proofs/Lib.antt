@@ -12,6 +12,7 @@ pub mod SectionBytes
 pub mod KindLines
 pub mod ModalKinds
 pub mod Valid
+pub mod Wider
 pub mod Replying
 pub mod Order
 pub mod Selected

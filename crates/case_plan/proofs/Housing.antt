@@ -46,16 +46,20 @@ node-turn c {w} {v} k j x s l m h e =
     word : (i r : ℕ) → i / 3 ≡ j → i % 3 ≡ r → wordOf x r ≡ nodeWords c i
     word i r p q = ap (λ t. wordOf t r) e ∙ sym (word-is c i p q)
 
--- what is filled in behind the nodes leaves them alone
-pub nodes-same : {w v : List ℕ} {base n : ℕ} {f : Fun} → Filled w v base n f → scopesAt ≤ base → (j : ℕ) → decoded v .nodes j ≡ decoded w .nodes j
-nodes-same {w} {v} s l j = elim (decLt j mostNodes) [
+-- where the words before the scopes are the same, so are the nodes
+pub nodes-kept : (w v : List ℕ) → ((k : ℕ) → k < scopesAt → getD v k 0 ≡ getD w k 0) → (j : ℕ) → decoded v .nodes j ≡ decoded w .nodes j
+nodes-kept w v same j = elim (decLt j mostNodes) [
   | yes h ↦
-      let first = s .under (nodesAt + 3 * j) (omega arith) in
-      let second = s .under (nodesAt + 3 * j + 1) (omega arith) in
-      let third = s .under (nodesAt + 3 * j + 2) (omega arith) in
+      let first = same (nodesAt + 3 * j) (omega arith) in
+      let second = same (nodesAt + 3 * j + 1) (omega arith) in
+      let third = same (nodesAt + 3 * j + 2) (omega arith) in
       rw (lt-ltb j mostNodes h) (λ i. (first i, second i, third i))
   | no h ↦ rw (le-ltb j mostNodes (omega arith))
 ]
+
+-- what is filled in behind the nodes leaves them alone
+pub nodes-same : {w v : List ℕ} {base n : ℕ} {f : Fun} → Filled w v base n f → scopesAt ≤ base → (j : ℕ) → decoded v .nodes j ≡ decoded w .nodes j
+nodes-same {w} {v} s l = nodes-kept w v (λ k h. s .under k (omega arith))
 
 -- ---- binders
 pub housed-none : (N : ℕ → Node) (w : List ℕ) → Housed N 0 w w

@@ -3,3 +3,5 @@ pub mod Housing
 pub mod Labelling
 pub mod Drawing
 pub mod Assembling
+pub mod StateTable
+pub mod KnownNodes

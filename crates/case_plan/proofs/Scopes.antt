@@ -1,4 +1,4 @@
--- What a sound plan says of its nodes and of what each depends on. The crates that fill tables cite these.
+-- What the rule of a sound plan says of its nodes and of what each depends on. The crates that fill tables cite these.
 -- A scope has just the free variables, mark 16, and mark 17 of a node not reached; a node that is named gives its own but for the variable bound.
 use Prim.Native.Nat.{ℕ, zero, suc, _+_, _*_, _^_, _≤_, _<_}
 use mathlib.Core.Bool.{Bool, true, false, not, or-comm}
@@ -20,7 +20,7 @@ use Rattle.case_model.specs.Limits.{mostNodes, variables}
 use Rattle.case_model.specs.Reach.{Reached, the-root, named}
 use Rattle.case_model.proofs.Tests.{is-true, is-false}
 use Rattle.case_model.proofs.Nodes.{Fits, fits-constant, fits-variable, fits-pair, fits-binder, holds-fits, fits-names}
-use Rattle.case_plan.specs.Plans.{Plan, Sound, nodesOf, Within, freeSet, scopeOf, everyMark}
+use Rattle.case_plan.specs.Plans.{Plan, SoundRule, nodesOf, Within, freeSet, scopeOf, everyMark}
 
 -- ---- scopes as numbers
 -- a set of numbers below k, and k
@@ -38,7 +38,7 @@ members x true s h =
 members x false s h =
     has-top 17 (x + everyMark) s (omega arith) ∙ or-comm _ (eqb 17 s) ∙ ap (either (eqb 17 s)) (has-top 16 x s h)
 
-module _ {p : Plan} (S : Sound p) where
+module _ {p : Plan} (S : SoundRule p) where
   -- ---- nodes
   pub node-fits : (j : ℕ) → j < p .count → Fits j (nodesOf p j)
   unfolding nodesOf

@@ -3,15 +3,15 @@ use Prim.Native.Nat.{ℕ, zero, suc, _+_, _*_, _/_, _%_, _≤_, _<_}
 use mathlib.Core.Bool.{Bool}
 use mathlib.Core.List.{List}
 use mathlib.Core.Path.{_≡_}
-use lib.ListN.{getD}
+use lib.ListN.{getD, length}
 use Rattle.flc.specs.Sets.{has, bit, setOf}
 use Rattle.flc.specs.Functions.{Fun}
 use Rattle.flc.specs.Nodes.{Node, bind}
-use Rattle.case_model.specs.Limits.{mostNodes, variables}
+use Rattle.case_model.specs.Limits.{mostNodes, propositions, variables}
 use Rattle.case_model.specs.Kinds.{Triple}
 use Rattle.case_model.specs.Case.{Case, at}
 use Rattle.case_model.specs.Areas.{Filled, from}
-use Rattle.case_plan.specs.Plans.{homesAt, propsAt, scopeOf}
+use Rattle.case_plan.specs.Plans.{statesAt, rootAt, countAt, nodesAt, homesAt, propsAt, planWords, decoded, scopeOf, RulePlanned}
 
 -- the words of the nodes, three for each
 abbrev pub wordOf : Triple → ℕ → ℕ
@@ -32,6 +32,21 @@ labelled c n i = setOf n (λ s. has (getD (c .labels) s 0) i)
 
 abbrev pub withState : List ℕ → ℕ → Fun
 withState w label i = 2 * from w propsAt i + bit (has label i)
+
+-- w has the first words of a plan of the case, and zeros behind them
+pub record Begun (c : Case) (w : List ℕ) : Type 0 where
+  pub long : length w ≡ planWords
+  pub states : getD w statesAt 0 ≡ length (c .labels)
+  pub root : getD w rootAt 0 ≡ c .root
+  pub count : getD w countAt 0 ≡ length (c .nodes)
+  pub rest : (i : ℕ) → from w nodesAt i ≡ 0
+
+-- v has these first words and the rule of the case, and no label yet
+pub record WithRule (c : Case) (w v : List ℕ) : Type 0 where
+  pub long : length v ≡ planWords
+  pub head : (k : ℕ) → k < nodesAt → getD v k 0 ≡ getD w k 0
+  pub planned : RulePlanned c (decoded v)
+  pub unlabelled : (i : ℕ) → i < propositions → from v propsAt i ≡ 0
 
 -- each binder of the first k nodes binds a variable that there is, and no other binds it
 pub record Binders (N : ℕ → Node) (k : ℕ) : Type 0 where

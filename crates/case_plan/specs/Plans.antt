@@ -130,15 +130,27 @@ pub record Scoped (p : Plan) : Type 0 where
   pub reached : (j : ℕ) → j < mostNodes → T (has reach j) ↔ Reached (nodesOf p) (p .root) j
   pub is : (j : ℕ) → j < p .count → p .scopes j ≡ scopeOf (freeSet p j) (has reach j)
 
-pub record Sound (p : Plan) : Type 0 where
-  pub sized : Sized p
-  pub limit : p .limit ≡ p .states * p .size
+-- of its rule, however many states there are
+pub record SoundRule (p : Plan) : Type 0 where
   pub most : p .count ≤ mostNodes
   pub root : p .root < p .count
   pub kinds : (j : ℕ) → j < p .count → nodeHolds j (p .nodes j) ≡ true
   pub homes : (j : ℕ) {d : Bool} {v b : ℕ} → j < p .count → nodesOf p j ≡ bind d v b → p .homes v ≡ j
   pub closed : (v : ℕ) → T (free v (formulaAt (nodesOf p) (p .root))) → ⊥
   pub scoped : Scoped p
+
+pub record Sound (p : Plan) : Type 0 where
+  pub sized : Sized p
+  pub limit : p .limit ≡ p .states * p .size
+  pub rule : SoundRule p
+
+-- p has the rule of the case, and how many states there are
+pub record RulePlanned (c : Case) (p : Plan) : Type 0 where
+  pub sound : SoundRule p
+  pub states : p .states ≡ length (c .labels)
+  pub nodes : nodesOf p ≡ model.nodeAt c
+  pub root : p .root ≡ c .root
+  pub count : p .count ≡ length (c .nodes)
 
 -- p is a plan of the case
 pub record Planned (c : Case) (p : Plan) : Type 0 where

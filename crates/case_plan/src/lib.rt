@@ -16,3 +16,4 @@ pub use places::prop;
 pub use places::scope;
 pub use places::source;
 pub use planning::plan;
+pub use planning::plan_rule;

@@ -19,4 +19,4 @@ asked {c} {p} {x} {words} P h l =
     record { runnable = record { sound = P .sound; room = omega arith }; inside = omega arith }
 
 pub word-there : {p : Plan} {x words : ℕ} → Asked p x words → p .root * p .size + x < words
-word-there {p} A = omega (arith, A .inside, A .runnable .room, apart (p .size) (p .root) (p .count) (A .runnable .sound .root))
+word-there {p} A = omega (arith, A .inside, A .runnable .room, apart (p .size) (p .root) (p .count) (A .runnable .sound .rule .root))

@@ -29,10 +29,10 @@ module _ {p : Plan} (S : Sound p) where
 
   -- what is reached is not above the root
   pub reached-low : (i : ℕ) → Met i → i ≤ p .root
-  reached-low = reached-under (λ i h. node-lower S i (omega (arith, S .root)))
+  reached-low = reached-under (λ i h. node-lower (S .rule) i (omega (arith, S .rule .root)))
 
   pub reached-there : (i : ℕ) → Met i → i < p .count
-  reached-there i r = omega (arith, reached-low i r, S .root)
+  reached-there i r = omega (arith, reached-low i r, S .rule .root)
 
   -- a variable free in a node that is named is free in the node that names it, or bound there
   up-or-bound : (i j u : ℕ) → i < p .count → Names (nodesOf p i) j → Free u j → ((d : Bool) × (b : ℕ) × (nodesOf p i ≡ bind d u b)) ⊎ Free u i
@@ -57,17 +57,17 @@ module _ {p : Plan} (S : Sound p) where
     pub met : Met (p .homes u)
 
   pub bound : (i u : ℕ) → Met i → Free u i → Bound i u
-  bound _ u the-root t = absurd (S .closed u t)
+  bound _ u the-root t = absurd (S .rule .closed u t)
   bound _ u (named {i} {j} r n) t = go (λ t. bound i u r t) (up-or-bound i j u (reached-there i r) n t)
     where
       go : (Free u i → Bound i u) → ((d : Bool) × (b : ℕ) × (nodesOf p i ≡ bind d u b)) ⊎ Free u i → Bound j u
       go up (inl (d, b, e)) =
-          let q : p .homes u ≡ i = S .homes i (reached-there i r) e in
+          let q : p .homes u ≡ i = S .rule .homes i (reached-there i r) e in
           record {
             least = d;
             body = b;
             is = ap (nodesOf p) q ∙ e;
-            higher = omega (arith, node-lower S i (reached-there i r) j n);
+            higher = omega (arith, node-lower (S .rule) i (reached-there i r) j n);
             met = subst Met (sym q) r;
           }
       go up (inr t) =
@@ -76,18 +76,18 @@ module _ {p : Plan} (S : Sound p) where
             least = B .least;
             body = B .body;
             is = B .is;
-            higher = omega (arith, B .higher, node-lower S i (reached-there i r) j n);
+            higher = omega (arith, B .higher, node-lower (S .rule) i (reached-there i r) j n);
             met = B .met;
           }
 
   -- of two the lower has the variable of the higher
   pub nested : (i v u : ℕ) → Met i → Free v i → Free u i → p .homes v < p .homes u → Free u (p .homes v)
-  nested _ v u the-root t s l = absurd (S .closed v t)
+  nested _ v u the-root t s l = absurd (S .rule .closed v t)
   nested _ v u (named {i} {j} r n) t s l =
       go (λ t s. nested i v u r t s l) (up-or-bound i j v (reached-there i r) n t) (up-or-bound i j u (reached-there i r) n s)
     where
       home : {w b : ℕ} {d : Bool} → nodesOf p i ≡ bind d w b → p .homes w ≡ i
-      home e = S .homes i (reached-there i r) e
+      home e = S .rule .homes i (reached-there i r) e
 
       go : (Free v i → Free u i → Free u (p .homes v))
           → ((d : Bool) × (b : ℕ) × (nodesOf p i ≡ bind d v b)) ⊎ Free v i → ((d : Bool) × (b : ℕ) × (nodesOf p i ≡ bind d u b)) ⊎ Free u i
@@ -108,7 +108,7 @@ module _ {p : Plan} (S : Sound p) where
   depends-binder i u r (inner {v = v} t h D) = depends-binder (p .homes v) u (bound i v r t .met) D
 
   pub depends-small : {k : ℕ} (i u : ℕ) → Met i → Depends p k i u → u < variables
-  depends-small i u r (outer t h) = scope-frees S i u (reached-there i r) t .0
+  depends-small i u r (outer t h) = scope-frees (S .rule) i u (reached-there i r) t .0
   depends-small i u r (inner {v = v} t h D) = depends-small (p .homes v) u (bound i v r t .met) D
 
   -- and not below k
@@ -171,4 +171,4 @@ module _ {p : Plan} (S : Sound p) where
   -- one has the mark and the free variables alone
   pub within-mk : (j act : ℕ) → Met j → T (has act 16) → ((u : ℕ) → Free u j → T (has act u)) → Within (p .scopes j) act
   within-mk j act r m f s k t =
-      scope-exact S j s (reached-there j r) t (f s) (λ e. subst (λ s. T (has act s)) (sym e) m) (λ e n. absurd (n r))
+      scope-exact (S .rule) j s (reached-there j r) t (f s) (λ e. subst (λ s. T (has act s)) (sym e) m) (λ e n. absurd (n r))

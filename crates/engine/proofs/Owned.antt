@@ -31,7 +31,7 @@ module _ {p : Plan} (S : Sound p) (w : List ℕ) (R : (i : ℕ) → Reached (nod
 
   -- a node that binds v is its home
   at-home : (i v : ℕ) → i < p .count → T (binds (nodesOf p i) v) → p .homes v ≡ i
-  at-home i v h t = let (d, b, e) = binder-is (nodesOf p i) v t in S .homes i h e
+  at-home i v h t = let (d, b, e) = binder-is (nodesOf p i) v t in S .rule .homes i h e
 
   -- the own function of a variable is its binder's
   own-fixed : (i v : ℕ) → Reached (nodesOf p) (p .root) i → T (free v (formulaAt (nodesOf p) i)) → ρ v ≡ meaning p (p .homes v) ρ

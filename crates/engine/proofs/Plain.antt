@@ -18,7 +18,7 @@ use Rattle.flc.proofs.Tests.{both-mk}
 use Rattle.flc.proofs.Meanings.{mean-small, mean-or, mean-and}
 use Rattle.flc.proofs.Unfolding.{formulaAt-node}
 use Rattle.case_model.specs.Limits.{variables}
-use Rattle.case_model.specs.Kinds.{fits, kinds, kindAt, nodeOf, nodeHolds}
+use Rattle.case_model.specs.Kinds.{fits, kinds, kindAt, nodeHolds}
 use Rattle.case_model.specs.Areas.{Filled}
 use Rattle.case_model.proofs.Tests.{is-true, and-l, and-r}
 use Rattle.case_model.proofs.Nodes.{Fits, fits-constant, fits-variable, fits-pair, fits-binder, fits-bind}
@@ -29,17 +29,12 @@ use Rattle.case_reader.specs.declared.kinds.Kind.{Kind}
 use Rattle.case_reader.specs.declared.kinds.Kind.the-variants as kind
 use Rattle.case_reader.specs.NodeKinds.{atomWith, operandOf, lineOf}
 use Rattle.case_reader.specs.Read.{triple}
-use Rattle.case_reader.proofs.Knowing.{by-kind, operands, atom-operand}
+use Rattle.case_reader.proofs.Knowing.{operands, atom-operand}
 use Rattle.case_plan.specs.Plans.{Plan, nodesOf, meaning, tableOf, Within, Sound}
+use Rattle.case_plan.proofs.KnownNodes.{known}
 use Rattle.case_plan.proofs.Scopes.{node-fits, node-lower, scope-frees, scope-names}
 use Rattle.engine.specs.Blocks.{block, env, Right, value, Fillable, NodeFilled}
 use Rattle.engine.proofs.Frames.{apart, in-sets}
-
--- ---- a node of a known kind
-module _ (p : Plan) (j : ℕ) {t : code.Triple} (r : triple t ≡ p .nodes j) {k k′ : Kind} (e : lineOf k ≡ kindAt (t .0)) (q : k ≡ k′) where
-  pub known : nodesOf p j ≡ lineOf k′ .node (t .1) (t .2)
-  unfolding nodesOf
-  known = sym (by-kind (triple t) (λ n. n) q e ∙ ap nodeOf r)
 
 module _ {p : Plan} {w : List ℕ} {j : ℕ} (F : Fillable p w j) where
   -- where its block lies
@@ -48,7 +43,7 @@ module _ {p : Plan} {w : List ℕ} {j : ℕ} (F : Fillable p w j) where
 
   -- its operands fit
   holds : (t : code.Triple) → triple t ≡ p .nodes j → nodeHolds j (triple t) ≡ true
-  holds t r = subst (λ x. nodeHolds j x ≡ true) (sym r) (F .sound .kinds j (F .there))
+  holds t r = subst (λ x. nodeHolds j x ≡ true) (sym r) (F .sound .rule .kinds j (F .there))
 
   module _ {t : code.Triple} (r : triple t ≡ p .nodes j) {k : Kind} (e : lineOf k ≡ kindAt (t .0)) where
     -- what is filled in for the kind's node is filled in for node j
@@ -90,16 +85,16 @@ module _ {p : Plan} {w : List ℕ} {j : ℕ} (F : Fillable p w j) where
 
 -- ---- operators and binders
 pub operator-low : {p : Plan} → Sound p → (j : ℕ) → j < p .count → {o : Op} {a b : ℕ} → nodesOf p j ≡ two o a b → b < j
-operator-low S j h {b = b} e = node-lower S j h b (subst (λ n. Names n b) (sym e) (inr refl))
+operator-low S j h {b = b} e = node-lower (S .rule) j h b (subst (λ n. Names n b) (sym e) (inr refl))
 
 pub binder-fits : {p : Plan} → Sound p → (j : ℕ) → j < p .count → {d : Bool} {v b : ℕ} → nodesOf p j ≡ bind d v b → (v < variables) × (b < j)
-binder-fits {p} S j h e = fits-bind (nodesOf p j) (node-fits S j h) e
+binder-fits {p} S j h e = fits-bind (nodesOf p j) (node-fits (S .rule) j h) e
 
 -- ---- functions
 -- a node's tree is made of those of the nodes that it names
 pub unfolded : {p : Plan} → Sound p → (j : ℕ) → j < p .count → {n : Node} → nodesOf p j ≡ n
     → formulaAt (nodesOf p) j ≡ tree n (formulaAt (nodesOf p))
-unfolded {p} S j h e = formulaAt-node (nodesOf p) j (node-lower S j h) ∙ ap (λ n. tree n (formulaAt (nodesOf p))) e
+unfolded {p} S j h e = formulaAt-node (nodesOf p) j (node-lower (S .rule) j h) ∙ ap (λ n. tree n (formulaAt (nodesOf p))) e
 
 -- a node that is a variable has it free
 pub free-var : {p : Plan} → Sound p → (j v : ℕ) → j < p .count → nodesOf p j ≡ leaf (var v) → T (free v (formulaAt (nodesOf p) j))
@@ -119,22 +114,22 @@ module _ {p : Plan} (S : Sound p) (act : ℕ) (w : List ℕ) (G : GoodEnv (p .st
   pub value-right : ((d : Bool) (v b : ℕ) → nodesOf p j ≡ bind d v b → ⊥)
       → Agree (p .states) (value p (nodesOf p j) (block p w) (λ v. block p w (p .homes v))) (meaning p j (env p act w))
   unfolding mean
-  value-right plain x k = go (nodesOf p j) (node-fits S j there) refl ∙ ap (λ φ. mean (tableOf p) φ (env p act w) x) (sym (unfolded S j there refl))
+  value-right plain x k = go (nodesOf p j) (node-fits (S .rule) j there) refl ∙ ap (λ φ. mean (tableOf p) φ (env p act w) x) (sym (unfolded S j there refl))
     where
       go : (m : Node) → Fits j m → nodesOf p j ≡ m
           → value p m (block p w) (λ v. block p w (p .homes v)) x ≡ mean (tableOf p) (tree m (formulaAt (nodesOf p))) (env p act w) x
       go _ (fits-constant y) e = refl
       go _ (fits-variable v l) e =
-          let (h, s) = scope-frees S j v there (free-var S j v there e) in
+          let (h, s) = scope-frees (S .rule) j v there (free-var S j v there e) in
           ap (λ f. f x) (sym (env-active p act w v h (within v (omega arith) s)))
       go _ (fits-pair or a b h l) e =
-          let (s, t) = scope-names S j there e in
+          let (s, t) = scope-names (S .rule) j there e in
           ap₂ bitOr (named a h s x k) (named b l t x k) ∙ sym (mean-or (tableOf p) (formulaAt (nodesOf p) a) (formulaAt (nodesOf p) b) (env p act w) x G k)
       go _ (fits-pair and a b h l) e =
-          let (s, t) = scope-names S j there e in
+          let (s, t) = scope-names (S .rule) j there e in
           ap₂ bitAnd (named a h s x k) (named b l t x k) ∙ sym (mean-and (tableOf p) (formulaAt (nodesOf p) a) (formulaAt (nodesOf p) b) (env p act w) x G k)
       go _ (fits-pair chop a b h l) e =
-          let (s, t) = scope-names S j there e in
+          let (s, t) = scope-names (S .rule) j there e in
           ap (block p w a) (named b l t x k) ∙ named a h s _ (mean-small (tableOf p) (formulaAt (nodesOf p) b) (env p act w) G x k)
       go _ (fits-binder d v b h l) e = absurd (plain d v b e)
 

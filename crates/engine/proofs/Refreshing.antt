@@ -125,7 +125,7 @@ module _ {p : Plan} {w : List ℕ} {k old act grown : ℕ} (j : ℕ) (R : Refres
     -- it depends on more than what is active
     pub skip-out : (bitOr (p .scopes j) act ≡ act → ⊥) → Refreshed p w y k old act
     skip-out n =
-        let out : Within (p .scopes j) act → ⊥ = λ a. n (within-or (p .scopes j) act (scope-small S j last-there) (R .ready .mask) a) in
+        let out : Within (p .scopes j) act → ⊥ = λ a. n (within-or (p .scopes j) act (scope-small (S .rule) j last-there) (R .ready .mask) a) in
         left (λ a. absurd (out a))
         (λ i l only u q D. absurd (out (within-mk S j act (met-last only q D) (R .ready .mark) (free-last only q D))))
 
@@ -133,11 +133,11 @@ module _ {p : Plan} {w : List ℕ} {k old act grown : ℕ} (j : ℕ) (R : Refres
     pub skip-old : bitOr (p .scopes j) old ≡ old → Refreshed p w y k old act
     skip-old q =
         let inside = or-within (p .scopes j) old q in
-        let mark = inside 16 (omega arith) (scope-mark S j last-there) in
+        let mark = inside 16 (omega arith) (scope-mark (S .rule) j last-there) in
         left (λ a x i. kept-block (T₁ .kept) j x (omega arith) ∙ R .right j (omega arith) inside x i)
         (λ i l only u h D.
         let old-free : (v : ℕ) → Depends p (suc j) i v → T (has old v) = λ v E.
-        let (low, t) = scope-frees S j v last-there (depends-within S j i u v (only .0) D h E) in inside v (omega arith) t in
+        let (low, t) = scope-frees (S .rule) j v last-there (depends-within S j i u v (only .0) D h E) in inside v (omega arith) t in
         stays-right S (λ v. T (has act v) → T (has old v)) w y j (T₁ .stayed mark) (λ v m z x g. kept-block (T₁ .kept) (p .homes v) x m) i l
         (only-new S old act above i (only .0, λ v E a. old-free v E))
         (settled-old mark i (omega arith) (only .0, old-free)))
@@ -160,8 +160,8 @@ module _ {p : Plan} {w : List ℕ} {k old act grown : ℕ} (j : ℕ) (R : Refres
     one-more {v} q n C =
         let within = or-within (p .scopes j) act q in
         let new : (Met j) → T (has old 16) → ((u : ℕ) → T (free u (formulaAt (nodesOf p) j)) → T (has act u) → T (has old u)) → ⊥ =
-        λ r m f. n (within-or (p .scopes j) old (scope-small S j last-there) (R .small) (within-mk S j old r m (λ u t.
-        let (low, s) = scope-frees S j u last-there t in f u t (within u (omega arith) s)))) in
+        λ r m f. n (within-or (p .scopes j) old (scope-small (S .rule) j last-there) (R .small) (within-mk S j old r m (λ u t.
+        let (low, s) = scope-frees (S .rule) j u last-there t in f u t (within u (omega arith) s)))) in
         subst (λ k. Refreshed p w v k old act) (sym e) (record {
           kept = kept-trans (T₁ .kept) (C .kept) (omega arith);
           right = subst (λ ρ. Right p ρ act v (suc j)) same (C .right);
@@ -200,10 +200,11 @@ module _ {p : Plan} {w : List ℕ} {j act grown : ℕ} (C : Computable p w j act
     there = there;
     plain = plain;
     bound = λ v e.
-        let (h, t) = scope-frees sound j v there (free-var sound j v there e) in
+        let (h, t) = scope-frees (sound .rule) j v there (free-var sound j v there e) in
         let (a, b) = C .ready .homes v h (C .within v (omega arith) t) in
         (omega arith, b);
-    sets = λ o a b e. second-sets sound act w (C .ready .good) j there (C .within) (C .right) b (operator-low sound j there e) (scope-names sound j there e .1);
+    sets = λ o a b e. second-sets sound act w (C .ready .good) j there (C .within) (C .right) b (operator-low sound j there e)
+        (scope-names (sound .rule) j there e .1);
   }
 
   module _ {v : List ℕ} (F : NodeFilled p w v j) where

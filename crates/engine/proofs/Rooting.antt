@@ -40,7 +40,7 @@ module _ {p : Plan} (w : List ℕ) (A : Runnable p (length w)) where
   ready = record {
     sound = A .sound;
     room = A .room;
-    below = A .sound .root;
+    below = A .sound .rule .root;
     mask = pow-lt {i = 16} {j = 18} (omega arith);
     mark = rw (has-single 16 16) tt;
     homes = λ v l t. absurd (let z = eqb→eq 16 v (subst T (has-single 16 v) t) in omega arith);
@@ -53,12 +53,12 @@ module _ {p : Plan} (w : List ℕ) (A : Runnable p (length w)) where
     small = omega arith;
     less = λ s k t. absurd (subst T (has-empty s) t);
     settled = λ m. absurd (subst T (has-empty 16) m);
-    right = λ i l h. absurd (subst T (has-empty 16) (h 16 (omega arith) (scope-mark (A .sound) i (omega (arith, A .sound .root)))));
+    right = λ i l h. absurd (subst T (has-empty 16) (h 16 (omega arith) (scope-mark (A .sound .rule) i (omega (arith, A .sound .rule .root)))));
     older = λ g. absurd (not-suc-le-zero g);
   }
 
   within : Within (p .scopes (p .root)) everyMark
-  within s k t = subst (λ m. T (has m s)) (scope-root (A .sound)) t
+  within s k t = subst (λ m. T (has m s)) (scope-root (A .sound .rule)) t
 
   module _ {u : List ℕ} (S : Refreshed p w u (p .root) 0 everyMark) where
     pub root-computable : Computable p u (p .root) everyMark anew
@@ -76,5 +76,5 @@ module _ {p : Plan} (w : List ℕ) (A : Runnable p (length w)) where
       right = own-right (A .sound) v (λ i r. C .settled (ready .mark) i (omega (arith, reached-low (A .sound) i r))
           (r, λ z D. absurd (omega (arith, depends-above (A .sound) i z D, reached-low (A .sound) (p .homes z) (depends-met (A .sound) i z r D)))));
       rounds = C .rounds refl ∙ ap (roundsIn (tableOf p) (nodesOf p (p .root)) (formulaAt (nodesOf p))) (env-idle p u)
-          ∙ rounds-at (tableOf p) (nodesOf p) (p .root) (node-lower (A .sound) (p .root) (A .sound .root));
+          ∙ rounds-at (tableOf p) (nodesOf p) (p .root) (node-lower (A .sound .rule) (p .root) (A .sound .rule .root));
     }

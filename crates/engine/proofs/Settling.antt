@@ -10,7 +10,6 @@ use native.Mathlib.Decide.{ℕ-discrete}
 use native.Mathlib.Omega.{arith}
 use borrow.Author.Tests.{eq-eqb, ne-eqb}
 use lib.Dec.{T, eqb}
-use denote.Enum.Declared.{tagOf}
 use Rattle.flc.specs.Sets.{has, setOf}
 use Rattle.flc.proofs.Tests.{either-left, either-right}
 use Rattle.flc.specs.Functions.{Fun, approximant}
@@ -23,13 +22,6 @@ use Rattle.flc.proofs.FixedPoints.{Steady, rising-agree, iterate-agree, iterate
 use Rattle.flc.proofs.Rounds.{settled, rounds-unique}
 use Rattle.flc.proofs.Meanings.{mean-steady, mean-rising, mean-fix}
 use Rattle.case_model.specs.Areas.{Filled}
-use Rattle.case_reader.specs.declared.parts.Triple as code
-use Rattle.case_reader.specs.declared.kinds.Kind.{Kind}
-use Rattle.case_reader.specs.declared.kinds.Kind.the-variants as kind
-use Rattle.case_reader.proofs.kinds.Kind.{the-type}
-use Rattle.case_model.specs.Kinds.{kindAt}
-use Rattle.case_reader.specs.NodeKinds.{lineOf}
-use Rattle.case_reader.specs.Read.{triple}
 use Rattle.case_plan.specs.Plans.{Plan, tableOf, nodesOf, meaning, Sound}
 use Rattle.tables.proofs.Sizes.{size-some}
 use Rattle.engine.specs.declared.refresh.Binder.{Binder}
@@ -41,22 +33,7 @@ use Rattle.engine.proofs.Frames.{in-table, kept-trans, filled-kept, fil
 use Rattle.engine.proofs.Depending.{depends-binder, depends-above, depends-up}
 use Rattle.engine.proofs.Staying.{right-as-bound, settled-filled, settled-more}
 use Rattle.engine.proofs.Refreshing.{env-same, ready-after, ready-above}
-use Rattle.engine.proofs.Plain.{known, unfolded}
-
--- ---- the kind of a node
--- the tag of a binder, and a node whose kind is no binder
-pub binder-tag : {k : Kind} {d : Bool} → k ≡ kind.Binder d → tagOf the-type k ≡ tagOf the-type (kind.Binder true)
-binder-tag q = ap (tagOf the-type) q
-
-pub other-kind : (p : Plan) (j : ℕ) {t : code.Triple} → triple t ≡ p .nodes j → (k : Kind) → lineOf k ≡ kindAt (t .0)
-    → ((d : Bool) → k ≡ kind.Binder d → ⊥) → (d : Bool) (v b : ℕ) → nodesOf p j ≡ bind d v b → ⊥
-other-kind p j {t} r k e n d v b q = go k (sym (known p j r {k = k} {k′ = k} e refl) ∙ q) n
-  where
-    go : (k : Kind) → lineOf k .node (t .1) (t .2) ≡ bind d v b → ((d : Bool) → k ≡ kind.Binder d → ⊥) → ⊥
-    go (kind.Atom x) z n = let w : _≡_ {A = ℕ} 0 1 = cc in omega arith
-    go kind.Variable z n = let w : _≡_ {A = ℕ} 0 1 = cc in omega arith
-    go (kind.Two o) z n = let w : _≡_ {A = ℕ} 0 1 = cc in omega arith
-    go (kind.Binder d) z n = n d refl
+use Rattle.engine.proofs.Plain.{unfolded}
 
 -- ---- the limit
 -- with at most 16 states it is far below the largest number

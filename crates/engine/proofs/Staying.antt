@@ -49,7 +49,7 @@ right-as-bound {p} S act w G j h within R x k =
   where
     same : (u : ℕ) → T (free u (formulaAt (nodesOf p) j)) → (x : ℕ) → x < 2 ^ p .states → asBound p w u x ≡ env p act w u x
     same u t x k =
-        let (l, s) = scope-frees S j u h t in
+        let (l, s) = scope-frees (S .rule) j u h t in
         as-bound-at S w u x k ∙ ap (λ f. f x) (sym (env-active p act w u l (within u (omega arith) s)))
 
 -- ---- what stays

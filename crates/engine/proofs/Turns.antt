@@ -47,7 +47,7 @@ module _ {p : Plan} {w : List ℕ} {x : Binder} {act : ℕ} (B : Binds p w x act
   binds-low = binder-fits S (x .node) there (B .is)
 
   pub binder-home : p .homes (x .variable) ≡ x .node
-  binder-home = S .homes (x .node) there (B .is)
+  binder-home = S .rule .homes (x .node) there (B .is)
 
   -- its block, and the body's below it
   pub binder-here : x .node * p .size + p .size ≤ length w
@@ -63,7 +63,7 @@ module _ {p : Plan} {w : List ℕ} {x : Binder} {act : ℕ} (B : Binds p w x act
   -- a node that depends only on what is active does not see it
   pub unseen : (ρ : Env) (f : Fun) (i : ℕ) → i < x .node → Within (p .scopes i) act → meaning p i ρ ≡ meaning p i (put ρ (x .variable) f)
   unseen ρ f i l h = mean-free (tableOf p) (formulaAt (nodesOf p) i) ρ (put ρ (x .variable) f) (λ u t.
-      let (k, s) = scope-frees S i u (omega (arith, there)) t in
+      let (k, s) = scope-frees (S .rule) i u (omega (arith, there)) t in
       sym (put-other ρ (x .variable) u f (inactive u k (h u (omega arith) s))))
 
   -- what it depends on is active in its rounds, and so is what its body depends on
@@ -76,7 +76,7 @@ module _ {p : Plan} {w : List ℕ} {x : Binder} {act : ℕ} (B : Binds p w x act
   pub body-within : Within (p .scopes (x .body)) (wider act x)
   body-within s k t =
       wider-mk act (x .variable) s
-      (either-use _ _ (λ a. either-left _ _ (B .within s k a)) (either-right _ _) (scope-body S (x .node) there (B .is) s k t))
+      (either-use _ _ (λ a. either-left _ _ (B .within s k a)) (either-right _ _) (scope-body (S .rule) (x .node) there (B .is) s k t))
 
   -- the variable has the binder's table
   pub wider-env : env p (wider act x) w ≡ put (env p act w) (x .variable) (block p w (x .node))

@@ -27,7 +27,7 @@ pub below-flip : (d : Bool) (n : ℕ) (f g : Fun) → Below d n f g → Below (n
 below-flip d n f g h x i = sub-flip d n (f x) (g x) (h x i)
 
 -- what is below and above is equal
-sub-antisym : (d : Bool) (n x y : ℕ) → x < 2 ^ n → y < 2 ^ n → Sub d n x y → Sub d n y x → x ≡ y
+pub sub-antisym : (d : Bool) (n x y : ℕ) → x < 2 ^ n → y < 2 ^ n → Sub d n x y → Sub d n y x → x ≡ y
 sub-antisym true n x y i j h k = set-ext n x y i j (λ s l. bool-ext (has x s) (has y s) (h s l) (k s l))
 sub-antisym false n x y i j h k = set-ext n x y i j (λ s l. bool-ext (has x s) (has y s) (sub-flip false n y x k s l) (sub-flip false n x y h s l))
 

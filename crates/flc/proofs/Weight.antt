@@ -1,5 +1,5 @@
--- The weight of a function on sets, the number of its members at all sets together: what bounds the rounds.
--- It is at most n * 2 ^ n, rises with the function, and a function that is above another of the same weight is that one.
+-- How many members a set has, and the weight of a function on sets, the number of its members at all sets together: what bounds the rounds.
+-- They are at most n and n * 2 ^ n, rise with the set and the function, and what is above another of as many members is that one.
 use mathlib.Core.Path.{_≡_}
 use mathlib.Core.Bool.{Bool, true, false}
 use Prim.Native.Nat.{ℕ, zero, suc, _+_, _*_, _^_, _≤_, _<_, suc-le-suc}
@@ -9,7 +9,7 @@ use lib.Dec.{T}
 use Rattle.flc.specs.Sets.{has, bit}
 use Rattle.flc.specs.Functions.{Fun}
 use Rattle.flc.proofs.Masks.{bit-le}
-use Rattle.flc.specs.Order.{signed, Below}
+use Rattle.flc.specs.Order.{signed, Sub, Below}
 
 -- f 0 + .. + f (k - 1)
 sum : ℕ → (ℕ → ℕ) → ℕ
@@ -55,23 +55,40 @@ bit-back false false e t = t
 abbrev member : Bool → ℕ → ℕ → ℕ
 member d x s = bit (signed d (has x s))
 
+-- the members of a set of n states: with the flag false, those that it lacks
+pub members : Bool → ℕ → ℕ → ℕ
+members d n x = sum n (member d x)
+
+pub members-max : (d : Bool) (n x : ℕ) → members d n x ≤ n
+unfolding members
+members-max d n x = omega (arith, sum-max n 1 (member d x) (λ s k. bit-le (signed d (has x s))))
+
+-- x below y: then x has no more, and if it has no fewer either, y is below x
+module _ (d : Bool) (n x y : ℕ) (h : Sub d n x y) where
+  each : (s : ℕ) → s < n → member d x s ≤ member d y s
+  each s k = bit-rises (signed d (has x s)) (signed d (has y s)) (h s k)
+
+  pub members-le : members d n x ≤ members d n y
+  unfolding members
+  members-le = sum-le n _ _ each
+
+  pub members-eq : members d n x ≡ members d n y → Sub d n y x
+  unfolding members
+  members-eq e s k = bit-back (signed d (has x s)) (signed d (has y s)) (sum-eq n (member d x) (member d y) each e s k)
+
 -- the members at all sets
 pub weight : Bool → ℕ → Fun → ℕ
-weight d n f = sum (2 ^ n) (λ x. sum n (member d (f x)))
+weight d n f = sum (2 ^ n) (λ x. members d n (f x))
 
 -- each of n states is in each of 2 ^ n sets at most once
 pub weight-max : (d : Bool) (n : ℕ) (f : Fun) → weight d n f ≤ n * 2 ^ n
 unfolding weight
-weight-max d n f =
-    sum-max (2 ^ n) n _ (λ x i. omega (arith, sum-max n 1 (member d (f x)) (λ s k. bit-le (signed d (has (f x) s)))))
+weight-max d n f = sum-max (2 ^ n) n _ (λ x i. members-max d n (f x))
 
 -- f below g: then f is no heavier, and if it is no lighter either, g is below f
 module _ (d : Bool) (n : ℕ) (f g : Fun) (h : Below d n f g) where
-  each : (x : ℕ) → x < 2 ^ n → (s : ℕ) → s < n → member d (f x) s ≤ member d (g x) s
-  each x i s k = bit-rises (signed d (has (f x) s)) (signed d (has (g x) s)) (h x i s k)
-
-  at : (x : ℕ) → x < 2 ^ n → sum n (member d (f x)) ≤ sum n (member d (g x))
-  at x i = sum-le n _ _ (each x i)
+  at : (x : ℕ) → x < 2 ^ n → members d n (f x) ≤ members d n (g x)
+  at x i = members-le d n (f x) (g x) (h x i)
 
   pub weight-le : weight d n f ≤ weight d n g
   unfolding weight
@@ -79,7 +96,4 @@ module _ (d : Bool) (n : ℕ) (f g : Fun) (h : Below d n f g) where
 
   pub weight-eq : weight d n f ≡ weight d n g → Below d n g f
   unfolding weight
-  weight-eq e x i s k =
-      bit-back (signed d (has (f x) s)) (signed d (has (g x) s))
-      (sum-eq n (member d (f x)) (member d (g x)) (each x i)
-      (sum-eq (2 ^ n) (λ x. sum n (member d (f x))) (λ x. sum n (member d (g x))) at e x i) s k)
+  weight-eq e x i = members-eq d n (f x) (g x) (h x i) (sum-eq (2 ^ n) (λ x. members d n (f x)) (λ x. members d n (g x)) at e x i)

@@ -1,4 +1,4 @@
--- Iterates of a map on functions, and what they may begin with to rise to a fixed point: docs/SPECIFICATION.md, clause 2.10.
+-- Iterates of a map, and what those of a map on functions may begin with to rise to a fixed point: docs/SPECIFICATION.md, clause 2.10.
 -- The flag: true for the least fixed point, to which they rise, false for the greatest, to which they fall. The contracts of the code that computes
 -- approximants cite these; what the entries promise does not.
 use mathlib.Core.Bool.{Bool, true, false}
@@ -11,7 +11,7 @@ abbrev pub fixed : Bool → ℕ → (Fun → Fun) → Fun
 fixed true n F = meet n F
 fixed false n F = join n F
 
-unfoldable pub iterate : (Fun → Fun) → Fun → ℕ → Fun
+unfoldable pub iterate : {A : Type 0} → (A → A) → A → ℕ → A
 iterate F x zero = x
 iterate F x (suc k) = F (iterate F x k)
 

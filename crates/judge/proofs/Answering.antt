@@ -28,7 +28,7 @@ pub root-answer : {p : Plan} {x words : ℕ} → Asked p x words → {w v : List
 root-answer {p} {x} A {w} {v} {r} {y} R e =
     let k : x < 2 ^ p .states = subst (λ m. x < m) (A .runnable .sound .sized .size) (A .inside) in
     let s = e ∙ R .right (p .root) the-root x k
-    ∙ ap (λ f. f x) (mean-free (tableOf p) (formulaAt (nodesOf p) (p .root)) _ none (λ v t. absurd (A .runnable .sound .closed v t))) in
+    ∙ ap (λ f. f x) (mean-free (tableOf p) (formulaAt (nodesOf p) (p .root)) _ none (λ v t. absurd (A .runnable .sound .rule .closed v t))) in
     λ i. record { set = s i; rounds = R .rounds i }
 
 -- the plan's verdict is the case's

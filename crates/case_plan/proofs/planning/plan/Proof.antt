@@ -1,12 +1,11 @@
 -- `case_plan::planning::plan` meets its contract: a shift by at most 16 loses nothing, and each part is what it says.
 use Prim.Native.Nat.{_*_, _%_, _^_, _≤_}
-use mathlib.Core.Path.{refl, _∙_}
 use native.Mathlib.Nat.{mul-le-mul-right}
 use native.Mathlib.Omega.{arith}
 use lib.Pow.{pow-mono}
-use Rattle.case_model.specs.Case.{read}
 use Rattle.case_model.proofs.SectionBytes.{section-small}
-use Rattle.case_plan.proofs.Assembling.{power, Begun, headed, begun, binders-there, props-zero, planned}
+use Rattle.case_plan.proofs.Assembling.{begun}
+use Rattle.case_plan.proofs.StateTable.{power, planned}
 use borrow.Author.Needs.{needs}
 use Rattle.case_plan.proofs.planning.plan.Statement.{statement}
 use Rattle.case_plan.proofs.planning.plan.Tie as tie
@@ -50,7 +49,7 @@ at-limit c =
     omega (arith, power n few, most, pow-mono {i = n} {j = 16} few)
 
 mul-plan : tie.Need-mul-plan
-mul-plan c = let at-root = c .before .before .before in omega (arith, at-limit (at-root .before .before))
+mul-plan c = omega (arith, at-limit (c .before .before .before .before .before))
 
 array-write-plan-3 : tie.Need-array-write-plan-3
 array-write-plan-3 c = search needs
@@ -61,50 +60,22 @@ array-write-plan-4 c = search needs
 array-write-plan-5 : tie.Need-array-write-plan-5
 array-write-plan-5 c = search needs
 
-put-nodes-requires : tie.Need-put-nodes-requires
-put-nodes-requires c κs = search needs
-
-put-scopes-requires : tie.Need-put-scopes-requires
-put-scopes-requires c κs = search needs
-
--- the words that stand before the parts
-at-begin : (c : tie.After-step-rows) → let at-root = c .before .before .before in let at-states = at-root .before .before in
-    let n = at-states .state-count .result in let s = (1 * 2 ^ n) % 2 ^ 64 in
-    Begun (read (at-states .before .before .args .file .now)) (headed n s (n * s) (at-root .root .result) (at-root .before .node-count .result))
-at-begin c =
-    let at-root = c .before .before .before in
-    let at-states = at-root .before .before in
-    let n = at-states .state-count .result in
-    begun n _ _ _ _ (at-states .state-count .ensures .is) (power n (at-few at-states)) refl (at-root .root .ensures .is)
-    (at-root .before .node-count .ensures .is)
-
-put-homes-requires : tie.Need-put-homes-requires
-put-homes-requires c κs =
-    let at-lent = c .before .before .before in
-    let at-nodes = at-lent .before in
-    let at-rows = at-nodes .before .before in
-    let at-masks = at-rows .before .before in
-    let at-count = at-masks .before .before in
-    let valid = at-count .before .before .before .pre in (
-      c .before .put-scopes .ensures .long ∙ at-nodes .put-nodes .ensures .long,
-      binders-there valid (at-count .node-count .ensures .is) (at-begin at-rows) (at-masks .masks .result) (at-rows .before .reached .result)
-          (at-nodes .put-nodes .ensures) (c .before .put-scopes .ensures),
+put-rule-requires : tie.Need-put-rule-requires
+put-rule-requires c κs =
+    let at-reached = c .before .before .before in
+    let at-masks = at-reached .before in
+    let at-root = at-masks .before in
+    let at-count = at-root .before in
+    let at-states = at-count .before in
+    let valid = at-states .before .before .pre .rule in (
+      valid,
+      begun _ _ _ _ _ (at-states .state-count .ensures .is) (at-root .root .ensures .is) (at-count .node-count .ensures .is),
+      at-masks .masks .ensures,
+      at-reached .reached .ensures valid,
     )
 
 put-props-requires : tie.Need-put-props-requires
-put-props-requires c κs =
-    let at-scopes = c .before .before .before in
-    let at-nodes = at-scopes .before .before .before in
-    let at-rows = at-nodes .before .before in
-    let at-masks = at-rows .before .before in
-    let at-count = at-masks .before .before in
-    let valid = at-count .before .before .before .pre in
-    let housed = c .before .put-homes .ensures in (
-      housed .filled .long ∙ at-scopes .put-scopes .ensures .long ∙ at-nodes .put-nodes .ensures .long,
-      at-few (at-count .before),
-      props-zero valid (at-count .node-count .ensures .is) (at-begin at-rows) (at-masks .masks .result) (at-rows .before .reached .result)
-          (at-nodes .put-nodes .ensures) (at-scopes .put-scopes .ensures) housed,
-    )
+put-props-requires c κs = search needs
 
 put-sources-requires : tie.Need-put-sources-requires
 put-sources-requires c κs = search needs
@@ -112,20 +83,14 @@ put-sources-requires c κs = search needs
 returns : tie.Need-returns
 returns c =
     let at-props = c .before .before .before in
-    let at-homes = at-props .before .before in
-    let at-scopes = at-homes .before .before in
-    let at-nodes = at-scopes .before .before .before in
-    let at-rows = at-nodes .before .before in
-    let at-masks = at-rows .before .before in
-    let at-count = at-masks .before .before in
-    let at-slice = at-count .before .before in
-    let file = at-slice .before .args .file .now in
-    let valid = at-slice .before .pre in
-    let bytes = section-small file (λ i. omega (arith, at-slice .shared-slice-known .given i)) 0 in
-    planned valid (at-count .node-count .ensures .is) (at-begin at-rows) (at-masks .masks .result) (at-rows .before .reached .result)
-    (at-nodes .put-nodes .ensures) (at-scopes .put-scopes .ensures) (at-count .before .state-count .ensures .is) bytes
-    (at-homes .put-homes .ensures) (at-props .put-props .ensures) (at-rows .step-rows .result) (c .put-sources .ensures) (at-rows .step-rows .ensures)
-    (at-masks .masks .ensures) (at-rows .before .reached .ensures (valid .rule))
+    let at-rule = at-props .before .before in
+    let at-rows = at-rule .before .before .before in
+    let at-states = at-rows .before .before .before .before .before in
+    let at-slice = at-states .before in
+    let bytes = section-small (at-slice .before .args .file .now) (λ i. omega (arith, at-slice .shared-slice-known .given i)) 0 in
+    planned (at-slice .before .pre) bytes (at-states .state-count .ensures .is) (power (at-states .state-count .result) (at-few at-states))
+    (at-rule .put-rule .last .0) (at-rule .put-rule .ensures) (at-props .put-props .ensures)
+    (at-rows .step-rows .result) (c .put-sources .ensures) (at-rows .step-rows .ensures)
 
 pub plan-spec : {M : Type 1} → statement M
 plan-spec =
@@ -144,9 +109,7 @@ plan-spec =
     array-write-plan-3
     array-write-plan-4
     array-write-plan-5
-    put-nodes-requires
-    put-scopes-requires
-    put-homes-requires
+    put-rule-requires
     put-props-requires
     put-sources-requires
     returns)

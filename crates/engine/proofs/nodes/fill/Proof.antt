@@ -8,7 +8,7 @@ use Rattle.engine.proofs.nodes.fill.Statement.{statement}
 use Rattle.engine.proofs.nodes.fill.Tie as tie
 
 node-requires : tie.Need-node-requires
-node-requires c κs = omega (arith, c .before .pre .there, c .before .pre .sound .most)
+node-requires c κs = omega (arith, c .before .pre .there, c .before .pre .sound .rule .most)
 
 element-copy-out-size : tie.Need-element-copy-out-size
 element-copy-out-size c = search needs

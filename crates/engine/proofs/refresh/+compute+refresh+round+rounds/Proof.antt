@@ -9,17 +9,17 @@ use lib.Bits.{bitOr}
 use lib.ListN.{length}
 use Rattle.flc.specs.Nodes.{bind}
 use Rattle.case_plan.specs.Plans.{decoded, nodesOf}
+use Rattle.case_plan.proofs.KnownNodes.{known, binder-tag, other-kind}
 use Rattle.case_plan.proofs.Scopes.{scope-small}
 use Rattle.tables.proofs.Sizes.{size-some}
 use Rattle.engine.specs.declared.refresh.Binder as binder
 use Rattle.engine.specs.Computing.{Refreshable, Refreshed, Iterable}
 use Rattle.engine.proofs.Frames.{apart}
-use Rattle.engine.proofs.Plain.{known}
 use Rattle.engine.proofs.Refreshing.{not-zero, refresh-none, last-there, refresh-lower, skip-out, skip-old, computable, one-more}
 use Rattle.engine.proofs.Refreshing.{fillable, computed-plain}
 use Rattle.engine.proofs.Turns.{binds-low, binder-here, body-under, round-refreshable, rounded}
 use Rattle.engine.proofs.Iterating.{Turning, turning-start, turning-roundable, turning-next, iterated-still, iterated-most}
-use Rattle.engine.proofs.Settling.{limit-small, binder-tag, other-kind, iterable, computed-binder}
+use Rattle.engine.proofs.Settling.{limit-small, iterable, computed-binder}
 use borrow.Author.Needs.{needs}
 use borrow.Fn.Kinds.{In}
 use borrow.Fn.PlainCycle.{Measures, is, falls, and}
@@ -100,7 +100,7 @@ compute-claims t = (
 )
 
 compute-node-requires : (t : ℕ) → compute-lts.Need-node-requires (compute-claims t) (compute-at t) compute.Post
-compute-node-requires t c κs = let C = c .before .pre .1 in omega (arith, C .ready .below, C .ready .sound .most)
+compute-node-requires t c κs = let C = c .before .pre .1 in omega (arith, C .ready .below, C .ready .sound .rule .most)
 
 compute-kind-of-requires : (t : ℕ) → compute-lts.Need-kind-of-requires (compute-claims t) (compute-at t) compute.Post
 compute-kind-of-requires t c κs = search needs
@@ -252,7 +252,7 @@ refresh-scope-requires t c κs =
     let R = st .pre .1 in
     let j = st .args .k - 1 in
     let there = last-there j R (last-at t at-if1) in
-    (omega (arith, there, R .ready .sound .most), scope-small (R .ready .sound) j there)
+    (omega (arith, there, R .ready .sound .rule .most), scope-small (R .ready .sound .rule) j there)
 
 refresh-same-length : (t : ℕ) → refresh-lts.Need-same-length (refresh-claims t) (refresh-at t) refresh.Post
 refresh-same-length t c =
