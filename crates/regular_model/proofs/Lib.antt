@@ -1,0 +1,12 @@
+pub mod Examples
+pub mod Profile
+pub mod Iterates
+pub mod Values
+pub mod Meaning
+pub mod Framed
+pub mod Blocks
+pub mod Loop
+pub mod Root
+pub mod SetBytes
+pub mod StepGroups
+pub mod Judging
