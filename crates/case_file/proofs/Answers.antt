@@ -42,3 +42,4 @@ number-small reason.Unlike = omega arith
 number-small reason.Shape = omega arith
 number-small reason.TooManyNodes = omega arith
 number-small reason.Room = omega arith
+number-small reason.Form = omega arith

@@ -16,6 +16,7 @@ pub enum Reason {
     Shape,
     TooManyNodes,
     Room,
+    Form,
 }
 
 pub struct Refusal {
@@ -43,6 +44,7 @@ impl Refusal {
             Reason::Shape => 11,
             Reason::TooManyNodes => 12,
             Reason::Room => 13,
+            Reason::Form => 14,
         }
     }
 }

@@ -29,6 +29,8 @@ use Rattle.case_model.proofs.Valid.{accepted-pairs, accepted-valid}
 use Rattle.case_model.proofs.Replying.{own-rows, counted-too}
 use Rattle.case_model.proofs.Places.{Placed, somewhere, then, at-zero, refusals-placed}
 use Rattle.case_model.proofs.Demand.{book-stands}
+use Rattle.regular_model.specs.Judging.{large, answer, judgingRegular}
+use Rattle.regular_model.proofs.Judging.{exact}
 use Rattle.hoidrul.specs.Packing.{Fits, Few, Brief, Short}
 
 -- a reply fits where the entry's own rows have small places, and its answer, if there is one, fits
@@ -73,10 +75,10 @@ module _ (f : List ℕ) (bytes : (i : ℕ) → byteAt f i < 256) where
   n = length (c .labels)
 
   -- a count of bytes fits if the bytes are few
-  shortly : (own : Case → Found) (new : Case → List ℕ) → Placed (own c) → (refusals standard f ≡ sound → own c ≡ sound → length (new c) ≤ standard .longest)
-      → Fits Short (counted (replying standard f own new))
-  shortly own new h few =
-      rw (counted-too standard f own new) (replying-fits Short standard f bytes own (λ c. length (new c)) h (λ ok s. omega (arith, few ok s)))
+  shortly : (most : Limits) (own : Case → Found) (new : Case → List ℕ) → Placed (own c)
+      → (refusals most f ≡ sound → own c ≡ sound → length (new c) ≤ standard .longest) → Fits Short (counted (replying most f own new))
+  shortly most own new h few =
+      rw (counted-too most f own new) (replying-fits Short most f bytes own (λ c. length (new c)) h (λ ok s. omega (arith, few ok s)))
 
   pub vetting-fits : (k : ℕ) → Fits Few (vetting f k)
   unfolding vetting
@@ -96,14 +98,14 @@ module _ (f : List ℕ) (bytes : (i : ℕ) → byteAt f i < 256) where
   pub classing-fits : (room : ℕ) → Fits Short (counted (classing f room))
   unfolding classing
   classing-fits room =
-      shortly (λ c. row13 (classes c) room) classes (search placed) (λ ok s.
+      shortly standard (λ c. row13 (classes c) room) classes (search placed) (λ ok s.
       omega (arith, length-listOf n (lowestAlike c), accepted-valid standard f ok .table .few))
 
   -- an edit's answer is an accepted file
   edit-fits : (e : Edit) (own : Case → Found) (new : Case → List ℕ) → reply f e ≡ replying standard f own new → Placed (own c)
       → Fits Short (counted (reply f e))
   edit-fits e own new is h =
-      rw is (shortly own new h (λ ok s. edit-short f e (new c) ok (is ∙ own-rows standard f own new ok ∙ ap (λ r. replied r (new c)) s)))
+      rw is (shortly standard own new h (λ ok s. edit-short f e (new c) ok (is ∙ own-rows standard f own new ok ∙ ap (λ r. replied r (new c)) s)))
 
   pub merging-fits : (s t room : ℕ) → Fits Short (counted (merging f s t room))
   unfolding merging
@@ -112,3 +114,7 @@ module _ (f : List ℕ) (bytes : (i : ℕ) → byteAt f i < 256) where
   pub rewriting-fits : (law j room : ℕ) → Fits Short (counted (rewriting f law j room))
   unfolding rewriting
   rewriting-fits law j room = edit-fits (rewrites law j room) _ _ refl (search placed depth 8)
+
+  pub regular-fits : (area room : ℕ) → Fits Short (counted (judgingRegular f area room))
+  unfolding judgingRegular
+  regular-fits area room = shortly large _ answer (search placed depth 8) (λ ok s. omega (arith, exact c .long))

@@ -8,6 +8,7 @@ ghost use Rattle.case_model.specs.Merging.{classing, merging};
 ghost use Rattle.case_model.specs.Rewriting.{rewriting};
 ghost use Rattle.case_file.specs.EnumNumbers.{number, writtenReply};
 ghost use Rattle.judge.specs.EnumNumbers.{judgedReply};
+ghost use Rattle.regular_model.specs.Judging.{judgingRegular};
 ghost use Rattle.hoidrul.specs.Packing.{packed, countsWord, refusalWord, spanWord, verdictWord, itself, Fits, Brief, Short};
 use case_file::Refusal;
 use case_file::Vetted;
@@ -98,4 +99,13 @@ pub extern "C" fn hoidrul_rewrite(file: &[u8], law: usize, node: usize, out: &mu
     ensures { λ _. ⌜ now (out .exit) ≡ written (rewriting (now (file .entry)) law node (length (now (out .entry)))) (now (out .entry)) ⌝ }
 {
     count_word(rewriting::rewrite(file, law, node, out))
+}
+
+#[no_mangle]
+pub extern "C" fn hoidrul_regular(file: &[u8], work: &mut [u8], out: &mut [u8]) -> u64
+    ensures { λ r. ⌜ r ≡ packed itself (counted (judgingRegular (now (file .entry)) (length (now (work .entry))) (length (now (out .entry))))) ⌝ }
+    ensures { λ _. ⌜ now (out .exit) ≡ written (judgingRegular (now (file .entry)) (length (now (work .entry))) (length (now (out .entry)))) (now (out .entry)) ⌝ }
+    ensures { λ _. ⌜ now (work .exit) ≡ cleared (judgingRegular (now (file .entry)) (length (now (work .entry))) (length (now (out .entry)))) (now (work .entry)) ⌝ }
+{
+    count_word(regular::regular(file, work, out))
 }
