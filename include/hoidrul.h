@@ -1,7 +1,7 @@
 /* Hoidrul checks case files: one state table, one rule of Fixed Point Logic with Chop and a list of start states.
  *
  * Arguments. Every function takes any bytes and any numbers. `file` points to `len` bytes, which are only read.
- * A lent area, `work` or `out`, must not overlap the file. A pointer may be null where its length is 0.
+ * Lent areas, `work` and `out`, must not overlap the file or each other. A pointer may be null where its length is 0.
  *
  * Replies. A refusal has bit 63 set, its number in bits 32 to 62 and its place in bits 0 to 31; an answer has bit 63
  * clear. Places count from 0: the step in refusal 3, the node in 5 and 6, and else 0. Only opening refuses by 0, without
@@ -11,12 +11,13 @@
  * Threads. Nothing is kept from call to call and there is no global state: threads may call at once, each with areas
  * of its own. They may share a file that nobody writes.
  *
- * Stack. Every call fits in a thread with HOIDRUL_STACK bytes of stack. Threads of 18 KiB were enough in tests, and
- * threads of 17 KiB were not: judging took 13,256 bytes from its caller's frame, the other functions at most 5,696.
+ * Stack. Every call fits in a thread with HOIDRUL_STACK bytes of stack. Threads of 49 KiB were enough in tests, and
+ * threads of 48 KiB were not: below its caller's frame hoidrul_regular took 44,984 bytes, hoidrul_judge 13,304 and the
+ * other functions at most 5,944. Without hoidrul_regular 18 KiB were enough, and 17 KiB were not.
  *
- * Time. Judging can take hours: a binder takes up to n * 2^n rounds on n states, and nested binders of alternating
- * kinds multiply theirs. Only ending its thread or process stops a call. The other functions end within about a
- * millisecond.
+ * Time. Judging can take hours: a binder takes up to n * 2^n rounds on n states, of a regular rule n, and nested binders
+ * of alternating kinds multiply theirs. Only ending its thread or process stops a call. The other functions end within
+ * about a millisecond.
  *
  * Cancelling. No call has a cancellation point, so pthread_cancel ends a call only where the thread has set
  * PTHREAD_CANCEL_ASYNCHRONOUS, best just around the call; else it takes effect after it. A call holds no lock and
@@ -41,6 +42,13 @@ extern "C" {
 /* The longest case, in bytes, with its padding. An `out` of this length has room for every result, which is packed and
  * has at most 6,385 bytes. */
 #define HOIDRUL_LONGEST 6394
+
+/* Of hoidrul_regular: the longest file, in bytes, the most states, the bytes of the set that it writes and the bytes of
+ * work area for each node. HOIDRUL_MOST_NODES times the last is enough for every rule. */
+#define HOIDRUL_REGULAR_LONGEST 65535
+#define HOIDRUL_REGULAR_MOST_STATES 256
+#define HOIDRUL_REGULAR_SET_BYTES 32
+#define HOIDRUL_REGULAR_NODE_BYTES 64
 
 /* Enough stack for a thread that calls, in bytes. */
 #define HOIDRUL_STACK 131072
@@ -70,11 +78,11 @@ extern "C" {
 #define HOIDRUL_RULE 2
 #define HOIDRUL_STARTS 3
 
-/* The refusals: name, number and words, the lowest number tested first. Later versions may have more: let a switch have a
- * default. */
+/* The refusals: name, number and words. A call gets the first that applies, in the order in which its function lists them.
+ * Later versions may have more: let a switch have a default. */
 #define HOIDRUL_REASONS(ROW) \
-    ROW(HOIDRUL_REASON_PAIRS, 1, "under 16 or over 6,394 bytes, or the pairs do not lay four sections in a row, at most three zero bytes apart") \
-    ROW(HOIDRUL_REASON_LABELS, 2, "no label, or more than 16") \
+    ROW(HOIDRUL_REASON_PAIRS, 1, "under 16 bytes or too long, or the pairs do not lay four sections in a row, at most three zero bytes apart") \
+    ROW(HOIDRUL_REASON_LABELS, 2, "no label, or too many") \
     ROW(HOIDRUL_REASON_STEPS, 3, "section 1 ends inside a step, or a step names no state or action of the case or does not come after the one before") \
     ROW(HOIDRUL_REASON_RULE, 4, "the rule is not 1 to 64 whole nodes and then the number of one of them, or the start states do not rise or are not all in the table") \
     ROW(HOIDRUL_REASON_NODE, 5, "a node's kind or bytes are out of range, or it names a node that is not below it") \
@@ -86,6 +94,7 @@ extern "C" {
     ROW(HOIDRUL_REASON_SHAPE, 11, "there is no law or node of that number, or the law's shape is not there") \
     ROW(HOIDRUL_REASON_TOO_MANY_NODES, 12, "the rewritten rule would have more than 64 nodes") \
     ROW(HOIDRUL_REASON_ROOM, 13, "the output area is too small for the result") \
+    ROW(HOIDRUL_REASON_FORM, 14, "the rule is not of the form that the entry takes") \
     /* end of the table */
 
 #define HOIDRUL_ROW(name, number, words) name = number,
@@ -105,7 +114,7 @@ uint64_t hoidrul_open(const uint8_t *file, size_t len, size_t section);
  * enough, and all are zero after an answer. Answer: set + rounds * 2^16. Refusals: 1 to 7, 8 if set >= 2^n, 9. */
 uint64_t hoidrul_judge(const uint8_t *file, size_t len, uint16_t set, uint16_t *work, size_t words);
 
-/* The three below write to `out`, an area of `room` bytes. Answer: how many bytes were written, from the first on;
+/* The four below write to `out`, an area of `room` bytes. Answer: how many bytes were written, from the first on;
  * those behind stay as they were. Refusal 13 if the area is shorter than the result. */
 
 /* Classes: one byte a state, the lowest state alike to it. States are alike if a bisimulation relates them, which compares
@@ -121,6 +130,13 @@ uint64_t hoidrul_merge(const uint8_t *file, size_t len, size_t s, size_t t, uint
 
 /* Rewriting by a law, 1 to 9, at a node: the packed file of the case with that rule. Refusals: 1 to 7, 11 to 13. */
 uint64_t hoidrul_rewrite(const uint8_t *file, size_t len, size_t law, size_t node, uint8_t *out, size_t room);
+
+/* Judging a regular rule on the set of all states, of which there may be 256: the states that hold, as a set of 32 bytes,
+ * state 0 the lowest bit of the first; bits past the states are 0. A rule is regular if its root reaches no tau, if every
+ * chop that it reaches has a node of kind 6, 7, 13 or 14 on its left, and if it reaches such nodes only there. `work`
+ * points to `bytes` bytes of any values; 64 for each of the m nodes are enough, and all are zero after an answer, which
+ * is 32. Refusals: 1 to 7, where a file may have 65,535 bytes and 256 labels, 14 if the rule is not regular, 9, 13. */
+uint64_t hoidrul_regular(const uint8_t *file, size_t len, uint8_t *work, size_t bytes, uint8_t *out, size_t room);
 
 /* Of every reply but opening's: is it a refusal? If so, its number, of enum hoidrul_reason, and its place; of an answer both
  * are 0. */
@@ -164,7 +180,7 @@ static inline int hoidrul_holds(uint64_t reply, size_t state)
     return state < HOIDRUL_MOST_STATES && ((hoidrul_answer(reply) >> state) & 1) != 0;
 }
 
-/* Of the answer of classes, merging or rewriting: the bytes written. */
+/* Of the answer of a function that writes to `out`: the bytes written. */
 static inline size_t hoidrul_written(uint64_t reply) { return (size_t)hoidrul_answer(reply); }
 
 /* Of opening's reply for section HOIDRUL_STARTS of the file and judging's on the set of all states: whether every start
@@ -175,6 +191,24 @@ static inline int hoidrul_starts_hold(const uint8_t *file, uint64_t opened, uint
         return 0;
     for (size_t i = 0; i < hoidrul_length(opened); i++)
         if (!hoidrul_holds(judged, file[hoidrul_offset(opened) + i]))
+            return 0;
+    return 1;
+}
+
+/* Of the reply of hoidrul_regular and the set that it wrote: whether a state holds, and whether every start state of the
+ * file does, which is so if there is none. If the call was refused, neither is so. */
+static inline int hoidrul_regular_holds(uint64_t reply, const uint8_t *out, size_t state)
+{
+    return hoidrul_answer(reply) && state < HOIDRUL_REGULAR_MOST_STATES && ((out[state / 8] >> (state % 8)) & 1) != 0;
+}
+static inline int hoidrul_regular_starts_hold(const uint8_t *file, uint64_t reply, const uint8_t *out)
+{
+    if (!hoidrul_answer(reply))
+        return 0;
+    /* The pairs of a file that is answered are right: the last tells where the start states stand. */
+    size_t offset = file[12] + ((size_t)file[13] << 8), length = file[14] + ((size_t)file[15] << 8);
+    for (size_t i = 0; i < length; i++)
+        if (!hoidrul_regular_holds(reply, out, file[offset + i]))
             return 0;
     return 1;
 }

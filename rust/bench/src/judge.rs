@@ -1,5 +1,6 @@
 //! The proved judge's algorithm in Rust: node j's table is the words from j × 2^n on.
-use crate::plan::{Plan, ALWAYS};
+use crate::plan::Plan;
+use crate::rule::ALWAYS;
 use crate::tables::Tables;
 use plain::kinds::{
     AND, BOX, CHOP, COMPLEMENT, DIAMOND, FALSE, GROUP_BOX, GROUP_DIAMOND, MU, OR, PROPOSITION, TAU,
@@ -9,9 +10,9 @@ use plain::Shape;
 
 /// The root's function at the set, and its rounds. The area is zero afterwards.
 pub fn judge(plan: &Plan, set: usize, work: &mut impl Tables) -> (u16, u64) {
-    refresh(plan, plan.root, 0, ALWAYS, 0, work);
-    let rounds = compute(plan, plan.root, ALWAYS, 0, work);
-    let answer = work.word(plan.root * plan.size + set);
+    refresh(plan, plan.rule.root, 0, ALWAYS, 0, work);
+    let rounds = compute(plan, plan.rule.root, ALWAYS, 0, work);
+    let answer = work.word(plan.rule.root * plan.size + set);
     work.clear();
     (answer, rounds)
 }
@@ -24,7 +25,7 @@ fn refresh<T: Tables>(plan: &Plan, k: usize, old: u32, active: u32, grown: u8, w
     }
     let j = k - 1;
     refresh(plan, j, old, active, grown, work);
-    let scope = plan.scopes[j];
+    let scope = plan.rule.scopes[j];
     if scope | active == active && scope | old != old {
         compute(plan, j, active, grown, work);
     }
@@ -33,11 +34,11 @@ fn refresh<T: Tables>(plan: &Plan, k: usize, old: u32, active: u32, grown: u8, w
 /// Computes node j from the lower ones: a binder's approximants until one equals the next. The
 /// answer is how many it took.
 fn compute<T: Tables>(plan: &Plan, j: usize, active: u32, grown: u8, work: &mut T) -> u64 {
-    let Shape::Binder(variable, body) = Shape::of(plan.node(j)) else {
+    let Shape::Binder(variable, body) = Shape::of(plan.rule.node(j)) else {
         fill(plan, j, work);
         return 0;
     };
-    let (kind, ..) = plan.node(j);
+    let (kind, ..) = plan.rule.node(j);
     if kind != grown {
         let start = if kind == MU { 0 } else { full(plan) };
         work.constant(plan.size, j * plan.size, start);
@@ -60,7 +61,7 @@ fn full(plan: &Plan) -> u16 {
 
 /// Node j, which is no binder.
 fn fill<T: Tables>(plan: &Plan, j: usize, work: &mut T) {
-    let (kind, a, b) = plan.node(j);
+    let (kind, a, b) = plan.rule.node(j);
     let (a, b) = (usize::from(a), usize::from(b));
     let size = plan.size;
     let (left, right, to) = (a * size, b * size, j * size);
@@ -69,7 +70,7 @@ fn fill<T: Tables>(plan: &Plan, j: usize, work: &mut T) {
         FALSE => work.constant(size, to, 0),
         PROPOSITION => work.constant(size, to, plan.props[a]),
         COMPLEMENT => work.constant(size, to, full(plan) - plan.props[a]),
-        VARIABLE => work.copy(size, plan.homes[a] * size, to),
+        VARIABLE => work.copy(size, plan.rule.homes[a] * size, to),
         TAU => work.identity(size, to),
         DIAMOND => diamond(plan, 1 << a, to, work),
         BOX => boxed(plan, 1 << a, to, work),

@@ -7,6 +7,10 @@
 //! - `bench growth FILE [SECONDS]`: the proved library alone; how times grow with states, nodes and
 //!   nesting, and the worst cases. A case is left out if it is likely to take more than so many
 //!   seconds, 60 if none are given.
+//! - `bench regular-ratios FILE`: the proved judge of regular rules against the same scheme in
+//!   unchecked Rust, and against the plain checker.
+//! - `bench regular-growth FILE [SECONDS]`: that judge alone; how its times grow with states, steps
+//!   and nesting.
 #![deny(unsafe_code)]
 
 mod cases;
@@ -17,6 +21,8 @@ mod judge;
 mod nesting;
 mod plan;
 mod ratios;
+mod regular;
+mod rule;
 mod table;
 mod tables;
 mod task;
@@ -29,14 +35,20 @@ use std::time::Duration;
 fn main() -> ExitCode {
     let given: Vec<String> = args().skip(1).collect();
     let given: Vec<&str> = given.iter().map(String::as_str).collect();
-    let (file, written) = match given[..] {
-        ["ratios", file] => (file, ratios::write(file)),
-        ["groups", file] => (file, groups::write(file)),
-        ["growth", file] => (file, growth::write(file, Duration::from_secs(60))),
-        ["growth", file, seconds] => match seconds.parse() {
-            Ok(seconds) => (file, growth::write(file, Duration::from_secs(seconds))),
-            Err(_) => return usage(),
-        },
+    let (what, file, seconds) = match given[..] {
+        [what, file] => (what, file, Ok(60)),
+        [what, file, seconds] if what.ends_with("growth") => (what, file, seconds.parse()),
+        _ => return usage(),
+    };
+    let Ok(longest) = seconds.map(Duration::from_secs) else {
+        return usage();
+    };
+    let written = match what {
+        "ratios" => ratios::write(file),
+        "groups" => groups::write(file),
+        "growth" => growth::write(file, longest),
+        "regular-ratios" => regular::ratios::write(file),
+        "regular-growth" => regular::growth::write(file, longest),
         _ => return usage(),
     };
     match written {
@@ -49,6 +61,8 @@ fn main() -> ExitCode {
 }
 
 fn usage() -> ExitCode {
-    eprintln!("bench ratios FILE, bench groups FILE, or bench growth FILE [SECONDS]");
+    eprintln!(
+        "bench ratios|groups|regular-ratios FILE, or bench growth|regular-growth FILE [SECONDS]"
+    );
     ExitCode::from(2)
 }

@@ -12,7 +12,7 @@ pub enum Binders {
 }
 
 impl Binders {
-    fn kind(self, level: usize) -> u8 {
+    pub fn kind(self, level: usize) -> u8 {
         match self {
             Binders::OneKind => MU,
             Binders::Alternating => [MU, NU][level % 2],

@@ -6,7 +6,7 @@ mod words;
 
 pub use indexed::Indexed;
 pub use sliced::Sliced;
-pub use words::{Checked, Unchecked};
+pub use words::{Checked, Unchecked, Words};
 
 pub trait Tables {
     fn word(&self, at: usize) -> u16;

@@ -9,20 +9,27 @@ const DEPTHS: usize = 32;
 /// A run is repeated until it takes about so long, so that the clock's grain does not matter.
 const LEAST: Duration = Duration::from_millis(4);
 
-/// The best time of one call of each. Runs take turns, so that a busy moment of the machine does
-/// not fall on one of them alone.
-pub fn best<A, const N: usize>(mut tasks: [&mut dyn FnMut() -> A; N]) -> [f64; N] {
+/// The best time of one call of each.
+pub fn best<A, const N: usize>(tasks: [&mut dyn FnMut() -> A; N]) -> [f64; N] {
+    let least = |best: [f64; N], run: [f64; N]| std::array::from_fn(|i| best[i].min(run[i]));
+    runs(tasks).into_iter().fold([f64::MAX; N], least)
+}
+
+/// The times of one call of each, run by run. They take turns, so that a busy moment of the machine
+/// does not fall on one of them alone.
+pub fn runs<A, const N: usize>(mut tasks: [&mut dyn FnMut() -> A; N]) -> Vec<[f64; N]> {
     let repeats = tasks.each_mut().map(|task| {
         let once = time(*task, 1).max(1.0);
         (LEAST.as_nanos() as f64 / once).ceil() as usize
     });
-    let mut best = [f64::MAX; N];
-    for run in 0..RUNS {
-        for ((task, repeats), best) in tasks.iter_mut().zip(repeats).zip(&mut best) {
-            *best = best.min(lowered(run % DEPTHS, &mut || time(*task, repeats)));
+    let mut run = |depth| {
+        let mut times = [0.0; N];
+        for ((task, repeats), spent) in tasks.iter_mut().zip(repeats).zip(&mut times) {
+            *spent = lowered(depth, &mut || time(*task, repeats));
         }
-    }
-    best
+        times
+    };
+    (0..RUNS).map(|i| run(i % DEPTHS)).collect()
 }
 
 fn time<A>(task: &mut dyn FnMut() -> A, repeats: usize) -> f64 {

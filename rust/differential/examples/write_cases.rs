@@ -1,9 +1,11 @@
 //! Writes the files of the folder `cases` anew.
 use differential::drives::{drives, file, folder};
+use differential::duplex;
 
 fn main() -> std::io::Result<()> {
     for (name, case) in drives() {
         std::fs::write(folder().join(name), file(name, &case))?;
     }
-    Ok(())
+    let printer = plain::write(&duplex::printer());
+    std::fs::write(folder().join(duplex::FILE), printer)
 }

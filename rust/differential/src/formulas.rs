@@ -1,5 +1,9 @@
 //! Cases for judging: rules drawn from the root down, so that binders bind what their bodies use.
 //! Nodes are shared, and some that the root does not reach stand between the others.
+mod rule;
+
+pub use rule::Form;
+
 use crate::rings::{steps, ACTIONS};
 use crate::rng::Rng;
 use crate::starts::starts;
@@ -7,7 +11,8 @@ use crate::{generate, groups};
 use plain::kinds::{
     AND, BOX, CHOP, COMPLEMENT, DIAMOND, FALSE, MU, NU, OR, PROPOSITION, TAU, TRUE, VARIABLE,
 };
-use plain::{Case, Limits, Shape, Triple};
+use plain::{Case, Limits, Triple};
+use rule::{is_modality, Rule, ENOUGH};
 
 /// How large a case may get.
 #[derive(Clone, Copy)]
@@ -35,19 +40,9 @@ impl Bounds {
     }
 }
 
-/// With so many nodes a rule is only brought to its end, for which 64 leave room.
-const ENOUGH: usize = 40;
-
 /// A case within the bounds, whose file is within the limits, whatever its padding.
 pub fn case(rng: &mut Rng, limits: Limits, bounds: Bounds) -> Case {
-    let mut rule = Rule {
-        unused: shuffled(rng),
-        ..Rule::default()
-    };
-    let root = rule.root(rng, bounds);
-    if rng.one_in(2) {
-        rule.unreached(rng);
-    }
+    let (nodes, root) = rule(rng, Form::Any, bounds);
     Case {
         labels: rng.bytes(bounds.states),
         steps: steps(
@@ -55,24 +50,20 @@ pub fn case(rng: &mut Rng, limits: Limits, bounds: Bounds) -> Case {
             bounds.states,
             generate::most_steps(limits, bounds.states),
         ),
-        nodes: rule.nodes,
+        nodes,
         root,
         starts: starts(rng, bounds.states),
     }
 }
 
-/// A rule as it grows, lowest node first.
-#[derive(Default)]
-struct Rule {
-    nodes: Vec<Triple>,
-    /// For each node its free variables: bit v for variable v.
-    free: Vec<u16>,
-    /// For each node the binders on one path down from it.
-    nesting: Vec<usize>,
-    /// Variables without a binder so far.
-    unused: Vec<u8>,
-    /// The variables that binders above what is being drawn bind.
-    scope: Vec<u8>,
+/// The nodes of a rule of this form, within the bounds, and its root.
+pub fn rule(rng: &mut Rng, form: Form, bounds: Bounds) -> (Vec<Triple>, u8) {
+    let mut rule = Rule::new(rng, form);
+    let root = rule.root(rng, bounds);
+    if rng.one_in(2) {
+        rule.unreached(rng);
+    }
+    (rule.nodes, root)
 }
 
 impl Rule {
@@ -95,8 +86,13 @@ impl Rule {
             1 => self.leaf(rng),
             2..=3 if bounds.nesting > 0 => self.binder(rng, deeper),
             drawn => {
-                let (left, right) = (self.formula(rng, deeper), self.formula(rng, deeper));
-                self.push(rng, ([OR, AND, CHOP][drawn % 3], left, right))
+                let kind = [OR, AND, CHOP][drawn % 3];
+                let left = match (kind, self.form) {
+                    (CHOP, Form::Regular) => self.modality(rng),
+                    _ => self.formula(rng, deeper),
+                };
+                let right = self.formula(rng, deeper);
+                self.push(rng, (kind, left, right))
             }
         }
     }
@@ -148,12 +144,16 @@ impl Rule {
         let variable = *self.scope.last().expect("the binder's variable");
         let start = self.start(rng, bounds.deeper(), kind);
         let name = self.push(rng, (VARIABLE, variable, 0));
-        let other = if rng.one_in(2) {
+        let regular = self.form == Form::Regular;
+        let other = if regular || rng.one_in(2) {
             self.modality(rng)
         } else {
             self.formula(rng, bounds.deeper())
         };
-        let (left, right) = rng.pick(&[(name, other), (other, name)]);
+        let (left, right) = match self.form {
+            Form::Any => rng.pick(&[(name, other), (other, name)]),
+            Form::Regular => (other, name),
+        };
         let turn = self.push(rng, (CHOP, left, right));
         self.push(rng, (operation(kind), start, turn))
     }
@@ -169,12 +169,21 @@ impl Rule {
         let node = (VARIABLE, rng.pick(outer), 0);
         let outer = self.push(rng, node);
         let opposite = operation(other(kind));
-        let kind = rng.pick(&[opposite, opposite, CHOP]);
+        let kind = match self.form {
+            Form::Any => rng.pick(&[opposite, opposite, CHOP]),
+            Form::Regular => opposite,
+        };
         self.push(rng, (kind, start, outer))
     }
 
-    /// Every other one with a group.
+    /// Every other one with a group. In a regular rule two chops may share one, and nothing else may.
     fn modality(&mut self, rng: &mut Rng) -> u8 {
+        if self.form == Form::Regular && rng.one_in(4) {
+            let there = self.nodes.iter().rposition(|&node| is_modality(node));
+            if let Some(modality) = there {
+                return modality as u8;
+            }
+        }
         let node = if rng.one_in(2) {
             groups::node(rng)
         } else {
@@ -185,9 +194,7 @@ impl Rule {
 
     /// A node that is there already, if one fits.
     fn shared(&mut self, rng: &mut Rng, bounds: Bounds) -> u8 {
-        let scope = self.scope.iter().fold(0, |mask, &v| mask | 1 << v);
-        let fits = |&j: &usize| self.free[j] & !scope == 0 && self.nesting[j] <= bounds.nesting;
-        let fitting: Vec<usize> = (0..self.nodes.len()).filter(fits).collect();
+        let fitting = self.fitting(bounds.nesting);
         if fitting.is_empty() {
             return self.leaf(rng);
         }
@@ -197,59 +204,16 @@ impl Rule {
     /// A variable every other time, where one is in scope.
     fn leaf(&mut self, rng: &mut Rng) -> u8 {
         let variable = !self.scope.is_empty() && rng.one_in(2);
-        let node = match rng.below(12) {
+        let node = match (rng.below(12), self.form) {
             _ if variable => (VARIABLE, rng.pick(&self.scope), 0),
-            0 => (rng.pick(&[TRUE, FALSE]), 0, 0),
-            1..=2 => (rng.pick(&[PROPOSITION, COMPLEMENT]), rng.byte_below(8), 0),
-            3..=5 => (TAU, 0, 0),
+            (0, _) => (rng.pick(&[TRUE, FALSE]), 0, 0),
+            (1..=2, _) | (_, Form::Regular) => {
+                (rng.pick(&[PROPOSITION, COMPLEMENT]), rng.byte_below(8), 0)
+            }
+            (3..=5, _) => (TAU, 0, 0),
             _ => return self.modality(rng),
         };
         self.push(rng, node)
-    }
-
-    /// Adds the node, now and then after one that nothing names yet.
-    fn push(&mut self, rng: &mut Rng, node: Triple) -> u8 {
-        if self.nodes.len() < ENOUGH && rng.one_in(8) {
-            self.unreached(rng);
-        }
-        self.add(node)
-    }
-
-    /// A node with free variables, bound elsewhere or nowhere; or a binder over any node; or a leaf,
-    /// which may look where the rule does not.
-    fn unreached(&mut self, rng: &mut Rng) {
-        let variable = self.add((VARIABLE, rng.byte_below(16), 0));
-        let below = rng.byte_below(self.nodes.len());
-        match (rng.below(4), self.unused.len()) {
-            (0, 4..) => {
-                let bound = self.unused.pop().expect("four at least");
-                self.add((rng.pick(&[MU, NU]), bound, below));
-            }
-            (1, _) => {
-                self.add((rng.pick(&[OR, AND, CHOP]), variable, below));
-            }
-            (2, _) => {
-                self.add(generate::leaf(rng));
-            }
-            _ => {}
-        }
-    }
-
-    fn add(&mut self, node: Triple) -> u8 {
-        let (kind, a, _) = node;
-        let (free, nesting) = match Shape::of(node) {
-            Shape::Leaf if kind == VARIABLE => (1 << a, 0),
-            Shape::Leaf => (0, 0),
-            Shape::Two(left, right) => (
-                self.free[left] | self.free[right],
-                self.nesting[left].max(self.nesting[right]),
-            ),
-            Shape::Binder(v, body) => (self.free[body] & !(1 << v), 1 + self.nesting[body]),
-        };
-        self.nodes.push(node);
-        self.free.push(free);
-        self.nesting.push(nesting);
-        self.nodes.len() as u8 - 1
     }
 }
 
@@ -267,12 +231,4 @@ fn operation(kind: u8) -> u8 {
         MU => OR,
         _ => AND,
     }
-}
-
-fn shuffled(rng: &mut Rng) -> Vec<u8> {
-    let mut variables: Vec<u8> = (0..16).collect();
-    for last in (1..16).rev() {
-        variables.swap(last, rng.within(0..=last));
-    }
-    variables
 }

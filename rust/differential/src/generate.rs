@@ -72,7 +72,7 @@ pub fn step(number: usize, states: usize) -> Triple {
 }
 
 /// Transitions in order, from none to all that there can be, or that have room.
-fn steps(rng: &mut Rng, limits: Limits, states: usize) -> Vec<Triple> {
+pub fn steps(rng: &mut Rng, limits: Limits, states: usize) -> Vec<Triple> {
     let (all, most) = (all_steps(states), most_steps(limits, states));
     let one_in = match rng.below(8) {
         0 => return vec![],

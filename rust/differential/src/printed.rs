@@ -1,7 +1,7 @@
-//! What the judging program must print, by the plain checker.
+//! What the judging program and the example `holds` must print, by the plain checker.
 use crate::judging::all_states;
-use plain::{judge, starts_hold, vet, Refusal};
-use std::fmt::Write as _;
+use plain::{judge, parse_within, regular_starts_hold, regular_states, starts_hold, vet};
+use plain::{Limits, Refusal};
 
 /// The program's work area, in words.
 pub const WORDS: usize = 32_768;
@@ -12,19 +12,46 @@ pub fn wanted(file: &[u8]) -> String {
 }
 
 /// The same by a work area of so many words.
-pub fn wanted_in(file: &[u8], words: usize) -> String {
+fn wanted_in(file: &[u8], words: usize) -> String {
     let states = vet(file, 0).map_or(0, |(states, _)| states);
     match judge(file, all_states(states), words) {
-        Err(Refusal { number, place }) => format!("refused {number} {place}\n"),
+        Err(refusal) => refused(refusal),
         Ok(verdict) => {
-            let mut print = format!("states {states}\nrounds {}\n", verdict.rounds);
-            for (state, &holds) in verdict.states.iter().enumerate() {
-                writeln!(print, "{state} {}", word(holds)).expect("room in a string");
-            }
             let hold = starts_hold(file, words).expect("it has been judged");
-            print + &format!("starts {}\n", word(hold))
+            let head = format!("states {states}\nrounds {}\n", verdict.rounds);
+            head + &lines(&verdict.states, hold)
         }
     }
+}
+
+/// What the example prints, which has words enough, and takes what rows 1 and 2 refuse for a regular
+/// rule.
+pub fn wanted_of_any(file: &[u8]) -> String {
+    match vet(file, 0) {
+        Err(Refusal { number: 1 | 2, .. }) => wanted_of_regular(file),
+        _ => wanted_in(file, usize::MAX),
+    }
+}
+
+fn wanted_of_regular(file: &[u8]) -> String {
+    match regular_starts_hold(file, usize::MAX) {
+        Err(refusal) => refused(refusal),
+        Ok(hold) => {
+            let case = parse_within(file, Limits::WIDEST).expect("it has been judged");
+            format!("states {}\n", case.labels.len()) + &lines(&regular_states(&case), hold)
+        }
+    }
+}
+
+fn refused(Refusal { number, place }: Refusal) -> String {
+    format!("refused {number} {place}\n")
+}
+
+/// A line for each state, and whether every start state holds.
+fn lines(states: &[bool], hold: bool) -> String {
+    let line = |(state, &holds)| format!("{state} {}\n", word(holds));
+    let lines: String = states.iter().enumerate().map(line).collect();
+    lines + &format!("starts {}\n", word(hold))
 }
 
 pub fn word(holds: bool) -> &'static str {

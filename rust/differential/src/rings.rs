@@ -1,6 +1,7 @@
 //! The steps of cases for judging.
 use crate::rng::Rng;
 use plain::Triple;
+use std::collections::BTreeSet;
 
 /// Few actions, so that steps and modalities meet.
 pub const ACTIONS: usize = 3;
@@ -22,6 +23,28 @@ pub fn steps(rng: &mut Rng, states: usize, most: usize) -> Vec<Triple> {
     }
     steps.truncate(most);
     steps
+}
+
+/// One way through all states, in any order, by the actions; mostly back to its first state or one
+/// further on; and steps aside from a few.
+pub fn long_way(rng: &mut Rng, states: usize) -> Vec<Triple> {
+    let mut way: Vec<usize> = (0..states).collect();
+    for last in (1..states).rev() {
+        way.swap(last, rng.within(0..=last));
+    }
+    let actions = rng.within(1..=ACTIONS);
+    let mut steps: BTreeSet<Triple> = BTreeSet::new();
+    for (at, &from) in way.iter().enumerate() {
+        let next = way.get(at + 1).copied();
+        let to = next.or_else(|| (!rng.one_in(4)).then(|| way[rng.below(states)]));
+        let action = rng.byte_below(actions);
+        steps.extend(to.map(|to| (from as u8, action, to as u8)));
+    }
+    for _ in 0..rng.below(8) {
+        let (from, to) = (rng.byte_below(states), rng.byte_below(states));
+        steps.insert((from, rng.byte_below(ACTIONS), to));
+    }
+    steps.into_iter().collect()
 }
 
 /// Rings of four states, the last of what is left.

@@ -1,9 +1,11 @@
-//! The binding's example `holds` prints what the judging program prints, and of cases that are too
-//! large for the program, what it would print with area enough.
+//! The binding's example `holds` prints what the judging program prints, of cases that are too large
+//! for the program what it would print with area enough, and of those that are too large for judging
+//! the states that hold by their regular rule.
 use differential::damage::expect_refusals;
 use differential::drives::{case, folder, longest, starting_in};
 use differential::padding::{write_padded, WIDEST};
-use differential::printed::{wanted, wanted_in};
+use differential::printed::{wanted, wanted_of_any};
+use hoidrul::Reason;
 use plain::{vet, write, Limits, Triple};
 use std::fs;
 use std::path::Path;
@@ -35,21 +37,24 @@ fn holds(file: &Path) -> (String, String, Option<i32>) {
 fn check(file: &Path, print: &str) {
     let (printed, said, status) = holds(file);
     assert_eq!(printed, print, "{file:?}");
-    let refused = print.starts_with("refused ");
-    assert_eq!(status, Some(refused.into()), "{file:?}");
-    let words = hoidrul::vet(&fs::read(file).expect("a file"), 0);
-    let words = words.map_or_else(
-        |refusal| format!("holds: {}\n", refusal.reason),
-        |_| "".into(),
-    );
+    let number = print.strip_prefix("refused ");
+    assert_eq!(status, Some(number.is_some().into()), "{file:?}");
+    let words = number.map_or("".into(), |number| format!("holds: {}\n", reason(number)));
     assert_eq!(said, words, "{file:?}");
+}
+
+/// The reason whose number a text begins with.
+fn reason(text: &str) -> Reason {
+    let number = text.split(' ').next().and_then(|word| word.parse().ok());
+    let number: u32 = number.expect("a number");
+    number.try_into().expect("a reason")
 }
 
 /// Writes the bytes to a file of this name and compares with what the plain checker says.
 fn check_bytes(name: &str, file: &[u8]) -> String {
     let path = Path::new(env!("CARGO_TARGET_TMPDIR")).join(name);
     fs::write(&path, file).expect("a file written");
-    let print = wanted_in(file, usize::MAX);
+    let print = wanted_of_any(file);
     check(&path, &print);
     print
 }
@@ -60,7 +65,7 @@ fn files_of_the_folder() {
     for entry in fs::read_dir(folder()).expect("the folder cases") {
         let path = entry.expect("an entry").path();
         let file = fs::read(&path).expect("a file");
-        check(&path, &wanted(&file));
+        check(&path, &wanted_of_any(&file));
         count += usize::from(vet(&file, 0).is_ok());
     }
     assert!(count > 20);
@@ -79,6 +84,20 @@ fn too_large_for_the_program() {
         let start = format!("states {states}\nrounds 0\n0 yes\n1 no\n2 yes\n");
         assert!(print.starts_with(&start), "{print}");
         assert!(print.ends_with(last), "{print}");
+    }
+}
+
+/// 17 states, and the longest file of a regular rule, both with the rule tt; then τ, which is not regular.
+#[test]
+fn too_large_for_judging() {
+    let small = starting_in(&[0, 16], case(&[1; 17], &[], &[(0, 0, 0)]));
+    for mut case in [small, longest(Limits::WIDEST)] {
+        let print = check_bytes("regular.large", &write(&case));
+        let start = format!("states {}\n0 yes\n", case.labels.len());
+        assert!(print.starts_with(&start), "{print}");
+        case.nodes[usize::from(case.root)] = (5, 0, 0);
+        let print = check_bytes("not_regular.large", &write(&case));
+        assert_eq!(print, "refused 14 0\n");
     }
 }
 

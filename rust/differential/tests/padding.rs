@@ -1,5 +1,5 @@
 //! Padding between sections, by both checkers: a padded file gets what the packed one gets, and edits
-//! write packed files.
+//! write packed files. (That of files for regular rules is in tests/regular.)
 use differential::drives::{self, drives, longest, starting_in};
 use differential::edits::{classes, edit, Written, LONGEST};
 use differential::f_changed::refused_files;
@@ -22,7 +22,7 @@ struct Replies {
     edited: Vec<Written>,
 }
 
-/// Calls every entry, with arguments that it answers and with some that it does not.
+/// Calls the entries with arguments that they answer and with some that they do not.
 fn replies(file: &[u8]) -> Replies {
     let (states, nodes) = plain::vet(file, 0).unwrap_or((2, 2));
     let opened = |section| in_plain(hoidrul::open(file, section)).map(<[u8]>::to_vec);

@@ -5,7 +5,7 @@ use differential::formulas::{self, Bounds};
 use differential::padding::{self, gaps_of, write_padded, PACKED, WIDEST};
 use differential::rng::Rng;
 use differential::strange::STRANGE;
-use differential::{alike_tables, f_changed, generate};
+use differential::{alike_tables, f_changed, generate, regular};
 use plain::{parse_within, Case, Limits, Refusal};
 use std::collections::BTreeSet;
 
@@ -81,6 +81,7 @@ fn cases_of_so_many_states() {
                 };
                 let cases = [
                     formulas::case(&mut rng, limits, bounds),
+                    regular::case(&mut rng, limits, bounds),
                     alike_tables::case(&mut rng, limits, states),
                     alike_tables::with_chops(&mut rng, limits, states, 64),
                 ];

@@ -2,6 +2,7 @@
 use differential::edits::LONGEST;
 use differential::measure::nesting;
 use differential::padding::padding_of;
+use differential::regular::SET_BYTES;
 use differential::rng::Rng;
 use plain::{Case, Edit, Shape};
 
@@ -35,6 +36,32 @@ pub fn words(rng: &mut Rng, case: &Case) -> usize {
         1 => rng.below(needed),
         2 => needed + rng.below(100),
         _ => needed,
+    }
+}
+
+/// The length of a work area for a regular rule. Where judging it would take the plain checker long, it
+/// is too short.
+pub fn bytes(rng: &mut Rng, case: &Case) -> usize {
+    let needed = 64 * case.nodes.len();
+    let turns = case.labels.len().saturating_pow(nesting(case) as u32);
+    if turns.saturating_mul(case.nodes.len()) > 2_000_000 {
+        return rng.below(needed);
+    }
+    match rng.below(8) {
+        0 => needed - 1,
+        1 => rng.below(needed),
+        2 => needed + rng.below(100),
+        _ => needed,
+    }
+}
+
+/// The length of an output area for a set: mostly its 32 bytes.
+pub fn set_room(rng: &mut Rng) -> usize {
+    match rng.below(8) {
+        0 => SET_BYTES - 1,
+        1 => rng.below(SET_BYTES),
+        2 => SET_BYTES + rng.below(40),
+        _ => SET_BYTES,
     }
 }
 

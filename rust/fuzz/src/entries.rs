@@ -3,8 +3,8 @@ use crate::arguments;
 use crate::replies::{Entry, Replies};
 use differential::rng::Rng;
 use differential::strange::section;
-use differential::{edits, judging, tally};
-use plain::{Case, Edit};
+use differential::{edits, judging, regular, tally};
+use plain::{Case, Edit, Limits};
 
 pub fn every(rng: &mut Rng, file: &[u8], replies: &mut Replies) {
     let reply = tally::compare(file, section(rng));
@@ -21,6 +21,7 @@ pub fn every(rng: &mut Rng, file: &[u8], replies: &mut Replies) {
     edit(rng, file, merge, replies);
     let rewrite = fitting(rng, file, |rng| arguments::rewrite(rng, &case));
     edit(rng, file, rewrite, replies);
+    judge_regular(rng, file, replies);
 }
 
 fn judge(rng: &mut Rng, file: &[u8], case: &Case, replies: &mut Replies) {
@@ -29,6 +30,15 @@ fn judge(rng: &mut Rng, file: &[u8], case: &Case, replies: &mut Replies) {
     replies.count(Entry::Judge, &judging::compare(file, set, words));
     // The binding's own, made of vetting, judging and opening.
     let _ = judging::compare_starts(file, words);
+}
+
+fn judge_regular(rng: &mut Rng, file: &[u8], replies: &mut Replies) {
+    let case = plain::parse_within(file, Limits::WIDEST).unwrap_or_else(|_| small());
+    let bytes = arguments::bytes(rng, &case);
+    let reply = regular::compare(file, bytes, arguments::set_room(rng));
+    replies.count(Entry::Regular, &reply);
+    // The binding's own, which reads two sections too.
+    let _ = regular::compare_verdict(file, bytes);
 }
 
 fn edit(rng: &mut Rng, file: &[u8], edit: Edit, replies: &mut Replies) {

@@ -5,7 +5,7 @@ use differential::drives::drives;
 use differential::formulas::{self, Bounds};
 use differential::rng::Rng;
 use differential::strange::STRANGE;
-use differential::{alike_tables, generate, padding};
+use differential::{alike_tables, generate, padding, profile, regular};
 use plain::{Case, Limits};
 use std::ops::RangeInclusive;
 
@@ -33,12 +33,13 @@ fn right(rng: &mut Rng, limits: Limits) -> Vec<u8> {
 }
 
 fn case(rng: &mut Rng, limits: Limits) -> Case {
-    match rng.below(8) {
+    match rng.below(10) {
         0..=1 => judged(rng, limits, 1..=5, 3),
         2 => judged(rng, limits, 6..=8, 1),
         3 => judged(rng, limits, 9..=12, 0),
         4 => generate::case(rng, limits),
         5..=6 => with_alike_states(rng, limits),
+        7..=8 => regular(rng, limits),
         _ => {
             let mut drives = drives();
             drives.swap_remove(rng.below(drives.len())).1
@@ -54,6 +55,22 @@ fn judged(rng: &mut Rng, limits: Limits, states: RangeInclusive<usize>, nesting:
         depth: rng.within(1..=3),
     };
     formulas::case(rng, limits, bounds)
+}
+
+/// A case with a regular rule, or with one that is changed so that it is nearly one, or still is.
+fn regular(rng: &mut Rng, limits: Limits) -> Case {
+    let most = if rng.one_in(2) { limits.most_states } else { 8 };
+    let bounds = Bounds {
+        states: rng.within(1..=most),
+        nesting: rng.within(0..=2),
+        depth: rng.within(1..=4),
+    };
+    let mut case = regular::case(rng, limits, bounds);
+    if profile::has_room(&case) && rng.one_in(4) {
+        let changes = [&profile::OUTSIDE[..], &profile::INSIDE].concat();
+        (rng.pick(&changes).1)(rng, &mut case);
+    }
+    case
 }
 
 /// A case in which merges and rewrites find something to do. Every fourth rule has 60 to 64 nodes,

@@ -30,11 +30,11 @@ pub fn run(count: usize, seed: u64) -> Replies {
 }
 
 /// A list of edits every sixth time; then every entry on the file that it led to, or on any. At times
-/// the file would be a case if the limits were wider.
+/// the file is a case for regular rules alone, whose limits are wider.
 fn round(rng: &mut Rng, replies: &mut Replies) {
     let file = match rng.below(24) {
         0..=3 => list::edits(rng, replies),
-        4 => files::any(rng, Limits::WIDEST),
+        4..=6 => files::any(rng, Limits::WIDEST),
         _ => files::any(rng, Limits::CASE),
     };
     entries::every(rng, &file, replies);

@@ -11,16 +11,18 @@ pub enum Entry {
     Classes,
     Merge,
     Rewrite,
+    Regular,
 }
 
 impl Entry {
-    pub const ALL: [Entry; 6] = [
+    pub const ALL: [Entry; 7] = [
         Entry::Vet,
         Entry::Open,
         Entry::Judge,
         Entry::Classes,
         Entry::Merge,
         Entry::Rewrite,
+        Entry::Regular,
     ];
 
     /// The refusals that the entry gives (docs/SPECIFICATION.md, 7.4).
@@ -31,6 +33,7 @@ impl Entry {
             Entry::Classes => &[13],
             Entry::Merge => &[8, 10, 13],
             Entry::Rewrite => &[11, 12, 13],
+            Entry::Regular => &[9, 13, 14],
         };
         (1..=7).chain(own.iter().copied()).collect()
     }

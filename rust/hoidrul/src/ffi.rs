@@ -21,6 +21,14 @@ extern "C" {
         out: *mut u8,
         room: usize,
     ) -> u64;
+    fn hoidrul_regular(
+        file: *const u8,
+        len: usize,
+        work: *mut u8,
+        bytes: usize,
+        out: *mut u8,
+        room: usize,
+    ) -> u64;
 }
 
 pub fn vet(file: &[u8], section: usize) -> u64 {
@@ -57,4 +65,11 @@ pub fn rewrite(file: &[u8], law: usize, node: usize, out: &mut [u8]) -> u64 {
     let (room, out) = (out.len(), out.as_mut_ptr());
     // SAFETY: as for `classes`.
     unsafe { hoidrul_rewrite(file.as_ptr(), file.len(), law, node, out, room) }
+}
+
+pub fn regular(file: &[u8], work: &mut [u8], out: &mut [u8]) -> u64 {
+    let (bytes, work) = (work.len(), work.as_mut_ptr());
+    let (room, out) = (out.len(), out.as_mut_ptr());
+    // SAFETY: as for `judge`, with two areas, which are both borrowed mutably and so overlap nowhere.
+    unsafe { hoidrul_regular(file.as_ptr(), file.len(), work, bytes, out, room) }
 }

@@ -3,7 +3,7 @@
 //! A case file holds one state table, one rule in Fixed Point Logic with Chop and a list of start
 //! states, in four sections: [`LABELS`], [`STEPS`], [`RULE`] and [`STARTS`]. A head tells for each
 //! where it begins and how many bytes it has; the first begins behind the head, any other where the
-//! one before ends or up to three bytes later, and the bytes between, the padding, are 0. Six entries
+//! one before ends or up to three bytes later, and the bytes between, the padding, are 0. The entries
 //! take such a file:
 //!
 //! | Entry | Answers |
@@ -14,6 +14,7 @@
 //! | [`classes`] | which states are alike |
 //! | [`merge`] | the case with two alike states made one |
 //! | [`rewrite`] | the case with its rule rewritten by one of nine laws |
+//! | [`regular`] | which states hold, of a regular rule on a table of up to 256 states |
 //!
 //! A padded file gets the replies of the packed one, which has the same sections without padding.
 //! [`merge`] and [`rewrite`] write packed files.
@@ -21,8 +22,9 @@
 //! Each takes any bytes and any numbers, always ends, and answers or returns a [`Refusal`]. The
 //! caller lends every area that is written, and a refusal leaves it unchanged. Entries keep no
 //! state, so threads may call at once; a thread needs [`STACK`] bytes of stack. docs/SPECIFICATION.md
-//! says what they answer in full. Two helpers are made of them: [`work_area`] tells how many words
-//! judging needs, and [`starts_hold`] judges and says whether every start state holds.
+//! says what they answer in full. Some helpers are made of them: [`work_area`] and
+//! [`regular_work_area`] tell how much judging needs, [`starts_hold`] judges and says whether every
+//! start state holds, and [`regular_into`] writes the set where it is told to.
 //!
 //! ```
 //! // One state, no steps, the rule τ, no start states.
@@ -56,6 +58,7 @@ mod ffi;
 mod judging;
 mod limits;
 mod refusal;
+mod regular;
 mod sections;
 mod state_set;
 
@@ -63,9 +66,11 @@ pub use edits::{classes, merge, rewrite};
 pub use judging::{judge, starts_hold, work_area, Verdict};
 pub use limits::{
     LONGEST, MOST_ACTIONS, MOST_LAWS, MOST_NODES, MOST_PADDING, MOST_PROPOSITIONS, MOST_STATES,
-    MOST_VARIABLES, STACK,
+    MOST_VARIABLES, REGULAR_LONGEST, REGULAR_MOST_STATES, REGULAR_NODE_BYTES, REGULAR_SET_BYTES,
+    STACK,
 };
 pub use refusal::{Reason, Refusal, UnknownReason};
+pub use regular::{regular, regular_into, regular_work_area, RegularVerdict};
 pub use sections::{open, vet, Counts, LABELS, RULE, STARTS, STEPS};
 pub use state_set::StateSet;
 

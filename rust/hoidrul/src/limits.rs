@@ -4,7 +4,17 @@
 /// result, which is packed and has at most 6,385 bytes.
 pub const LONGEST: usize = 6_394;
 
-/// Enough stack for a thread that calls, in bytes. In tests a call took at most 13,256 bytes.
+/// The longest file that [`regular`](crate::regular) takes, in bytes, with its padding.
+pub const REGULAR_LONGEST: usize = 65_535;
+/// The most states that it takes.
+pub const REGULAR_MOST_STATES: usize = 256;
+/// The bytes of the set that [`regular_into`](crate::regular_into) writes.
+pub const REGULAR_SET_BYTES: usize = 32;
+/// The bytes of work area that it takes for each node: [`MOST_NODES`] times as many are enough for
+/// every rule.
+pub const REGULAR_NODE_BYTES: usize = 64;
+
+/// Enough stack for a thread that calls, in bytes. In tests a call took at most 44,984 bytes.
 /// Rust's threads have more unless they are built with less.
 pub const STACK: usize = 128 * 1024;
 

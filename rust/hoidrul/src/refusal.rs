@@ -68,8 +68,8 @@ macro_rules! reasons {
 }
 
 reasons! {
-    1 Pairs "under 16 or over 6,394 bytes, or the pairs do not lay four sections in a row, at most three zero bytes apart"
-    2 Labels "no label, or more than 16"
+    1 Pairs "under 16 bytes or too long, or the pairs do not lay four sections in a row, at most three zero bytes apart"
+    2 Labels "no label, or too many"
     3 Steps "section 1 ends inside a step, or a step names no state or action of the case or does not come after the one before"
     4 Rule "the rule is not 1 to 64 whole nodes and then the number of one of them, or the start states do not rise or are not all in the table"
     5 Node "a node's kind or bytes are out of range, or it names a node that is not below it"
@@ -81,6 +81,7 @@ reasons! {
     11 Shape "there is no law or node of that number, or the law's shape is not there"
     12 TooManyNodes "the rewritten rule would have more than 64 nodes"
     13 Room "the output area is too small for the result"
+    14 Form "the rule is not of the form that the entry takes"
 }
 
 /// The reason's words.
@@ -127,7 +128,7 @@ impl Error for UnknownReason {}
 /// assert_eq!(refusal.number(), 1);
 /// assert_eq!(
 ///     refusal.to_string(),
-///     "refused 1 0: under 16 or over 6,394 bytes, or the pairs do not lay four sections in a row, at most three zero bytes apart"
+///     "refused 1 0: under 16 bytes or too long, or the pairs do not lay four sections in a row, at most three zero bytes apart"
 /// );
 /// ```
 #[must_use]

@@ -2,8 +2,9 @@
 mod common;
 
 use common::c::compile;
-use common::{case, no_case, printed, root, run, scratch, told};
-use hoidrul::{Refusal, LABELS, LONGEST, MOST_LAWS, MOST_STATES, RULE, STARTS, STEPS};
+use common::{case, file, no_case, printed, root, run, scratch, told};
+use hoidrul::{Reason, Refusal};
+use hoidrul::{LABELS, LONGEST, MOST_LAWS, MOST_STATES, REGULAR_LONGEST, RULE, STARTS, STEPS};
 use std::fmt::Write;
 use std::fs;
 use std::process::Command;
@@ -17,7 +18,9 @@ const SECTIONS: [(usize, &str); 4] = [
 
 /// What the sample prints of a case, by this binding.
 fn sample_print(file: &[u8]) -> Result<String, Refusal> {
-    let counts = hoidrul::vet(file, LABELS)?;
+    let Ok(counts) = hoidrul::vet(file, LABELS) else {
+        return regular_print(file);
+    };
     let mut print = format!("states: {}\nnodes: {}\n", counts.states, counts.nodes);
     for (section, name) in SECTIONS {
         let length = hoidrul::open(file, section)?.len();
@@ -25,6 +28,10 @@ fn sample_print(file: &[u8]) -> Result<String, Refusal> {
         writeln!(print, "{name}: {length} bytes from byte {offset}").unwrap();
     }
     print += &verdict_print(file)?;
+    print += &match regular_print(file) {
+        Err(refusal) if refusal.reason == Reason::Form => "the rule is not regular\n".into(),
+        print => print?,
+    };
     print += &merge_print(file)?;
     print += &rewrite_print(file, counts.nodes)?;
     Ok(print)
@@ -47,6 +54,18 @@ fn verdict_print(file: &[u8]) -> Result<String, Refusal> {
     let hold = hoidrul::starts_hold(file, &mut work)?;
     let hold = if hold { "yes" } else { "no" };
     writeln!(print, "every start state holds: {hold}").unwrap();
+    Ok(print)
+}
+
+fn regular_print(file: &[u8]) -> Result<String, Refusal> {
+    let mut work = vec![0; hoidrul::regular_work_area(file)?];
+    let verdict = hoidrul::regular(file, &mut work)?;
+    let mut print = String::from("the rule is regular\nholding:");
+    for state in verdict.states.iter() {
+        write!(print, " {state}").unwrap();
+    }
+    let hold = if verdict.starts_hold { "yes" } else { "no" };
+    writeln!(print, "\nevery start state holds: {hold}").unwrap();
     Ok(print)
 }
 
@@ -84,11 +103,12 @@ fn rewrite_print(file: &[u8], nodes: usize) -> Result<String, Refusal> {
 
 #[test]
 fn sample_prints_what_the_binding_answers() {
-    let sample = compile(&root().join("examples/all_six.c"), "all_six");
+    let sample = compile(&root().join("examples/every_entry.c"), "every_entry");
     let cases = [
         "two_wheels",
         "f",
         "chop_and",
+        "and_chops",
         "tau",
         "nu",
         "example_4",
@@ -109,21 +129,53 @@ fn sample_prints_what_the_binding_answers() {
     }
 }
 
+/// 256 states in a row, of which the last has proposition 0, and the rule μZ.p0 or ⟨0⟩;Z; or only ⟨0⟩.
+#[test]
+fn sample_judges_large_tables() {
+    let sample = compile(&root().join("examples/every_entry.c"), "every_entry_large");
+    let nodes = [
+        [6, 0, 0],
+        [2, 0, 0],
+        [4, 0, 0],
+        [10, 0, 2],
+        [8, 1, 3],
+        [11, 0, 4],
+    ];
+    let labels = [&[0; 255][..], &[1]].concat();
+    let steps = Vec::from_iter((0..255).map(|state| [state, 0, state + 1]));
+    let path = scratch("large.case");
+    let write = |nodes| fs::write(&path, file(&labels, &steps, nodes, &[0, 255], 3)).unwrap();
+    write(&nodes);
+    let print = printed(run(Command::new(&sample).arg(&path)));
+    let holding: String = (0..256).map(|state| format!(" {state}")).collect();
+    let lines = ["the rule is regular", "every start state holds: yes"];
+    assert_eq!(
+        print,
+        format!("{}\nholding:{holding}\n{}\n", lines[0], lines[1])
+    );
+    write(&nodes[..1]);
+    let line = format!("{}: refused 14 0: {}\n", path.display(), Reason::Form);
+    assert_eq!(told(run(Command::new(&sample).arg(&path)), 1), line);
+}
+
 #[test]
 fn sample_tells_refusals() {
-    let sample = compile(&root().join("examples/all_six.c"), "all_six_refusing");
+    let sample = compile(
+        &root().join("examples/every_entry.c"),
+        "every_entry_refusing",
+    );
     // Node 2 of case F names itself, which a place of its own shows.
     let mut file = fs::read(case("f.case")).unwrap();
     file[24 + 2 * 3 + 2] = 2;
     let bad = scratch("node_2.case");
     fs::write(&bad, &file).unwrap();
     let too_long = scratch("too_long.case");
-    fs::write(&too_long, [0; LONGEST + 1]).unwrap();
+    fs::write(&too_long, [0; REGULAR_LONGEST + 1]).unwrap();
     for path in [bad, no_case(), too_long] {
         let refusal = sample_print(&fs::read(&path).unwrap()).unwrap_err();
         let line = format!("{}: {refusal}\n", path.display());
         assert_eq!(told(run(Command::new(&sample).arg(&path)), 1), line);
     }
     let usage = told(run(&mut Command::new(&sample)), 1);
-    assert_eq!(usage, "usage: all_six CASE\n");
+    assert_eq!(usage, "usage: every_entry CASE\n");
 }

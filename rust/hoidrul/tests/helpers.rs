@@ -38,7 +38,7 @@ fn refused_files() -> [(Vec<u8>, u64); 7] {
 /// The files, areas to lend, and a file with its length as two arguments.
 fn data() -> String {
     let mut data = String::from("#define CASE(name) name, sizeof name\n");
-    data += "uint16_t work[80];\nuint8_t out[HOIDRUL_LONGEST];\n";
+    data += "uint16_t work[80];\nuint8_t area[192], out[HOIDRUL_LONGEST];\n";
     data += &bytes("holding", &two(&[0]));
     data += &bytes("failing", &two(&[0, 1]));
     data += &bytes("starting_nowhere", &two(&[]));
@@ -60,6 +60,7 @@ fn refused_calls() -> Vec<(String, u64, u64)> {
             ("classes", "out, sizeof out"),
             ("merge", "0, 1, out, sizeof out"),
             ("rewrite", "9, 0, out, sizeof out"),
+            ("regular", "area, sizeof area, out, sizeof out"),
         ] {
             let call = format!("hoidrul_{entry}(CASE(refused_{i}), {arguments})");
             calls.push((call, i, place));
@@ -79,6 +80,10 @@ fn refused_calls() -> Vec<(String, u64, u64)> {
         ("rewrite(CASE(holding), 10, 2, out, sizeof out)", 11),
         ("rewrite(CASE(full), 4, 62, out, sizeof out)", 12),
         ("rewrite(CASE(holding), 9, 2, NULL, 0)", 13),
+        ("regular(CASE(full), NULL, 0, NULL, 0)", 14),
+        ("regular(CASE(holding), area, 191, NULL, 0)", 9),
+        ("regular(CASE(holding), NULL, 0, out, 32)", 9),
+        ("regular(CASE(holding), area, 192, out, 31)", 13),
     ];
     calls.extend(others.map(|(call, number)| (format!("hoidrul_{call}"), number, 0)));
     calls
@@ -90,12 +95,29 @@ const HELPERS: [&str; 8] = [
 ];
 const STATES: [&str; 6] = ["0", "1", "2", "15", "16", "SIZE_MAX"];
 const JUDGED: &str = "hoidrul_judge(CASE(holding), 3, work, 80)";
+const REGULAR: &str = "hoidrul_regular(CASE(holding), area, 192, out, 32)";
 const OPENED: &str = "hoidrul_open(CASE(holding), 3)";
 const NOWHERE: &str = "hoidrul_open(CASE(starting_nowhere), 3)";
 
 fn starts_hold(file: &str, opened: &str, judged: &str, hold: u64) -> Line {
     let call = format!("hoidrul_starts_hold({file}, {opened}, {judged})");
     number(call, hold)
+}
+
+fn regular_starts_hold(file: &str, reply: &str, hold: u64) -> Line {
+    let call = format!("hoidrul_regular_starts_hold({file}, {reply}, out)");
+    number(call, hold)
+}
+
+/// What both judges' helpers say of a state by a reply.
+fn holds(reply: &str, regular: &str, state: &str, holds: u64) -> [Line; 2] {
+    [
+        number(format!("hoidrul_holds({reply}, {state})"), holds),
+        number(
+            format!("hoidrul_regular_holds({regular}, out, {state})"),
+            holds,
+        ),
+    ]
 }
 
 /// Of a refusal there are number and place, and nothing else.
@@ -109,9 +131,11 @@ fn refusal(reply: &str, reason: u64, place: u64) -> Vec<Line> {
         starts_hold("holding", reply, JUDGED, 0),
         starts_hold("holding", "0", reply, 0),
         starts_hold("holding", reply, reply, 0),
+        regular_starts_hold("holding", reply, 0),
+        regular_starts_hold("starting_nowhere", reply, 0),
     ];
     lines.extend(HELPERS.map(|helper| number(format!("hoidrul_{helper}({reply})"), 0)));
-    lines.extend(STATES.map(|state| number(format!("hoidrul_holds({reply}, {state})"), 0)));
+    lines.extend(STATES.map(|state| holds(reply, reply, state, 0)).concat());
     lines
 }
 
@@ -164,7 +188,7 @@ fn refused_openings() {
 fn answers() {
     let mut out = [0; hoidrul::LONGEST];
     let merged = hoidrul::merge(&full(), 0, 1, &mut out).unwrap();
-    let calls: [(&str, &[(&str, u64)]); 8] = [
+    let calls: [(&str, &[(&str, u64)]); 9] = [
         ("vet(CASE(holding), 0)", &[("states", 2), ("nodes", 3)]),
         ("open(CASE(holding), 1)", &[("offset", 18), ("length", 3)]),
         ("open(CASE(f), 3)", &[("offset", 55), ("length", 0)]),
@@ -179,6 +203,10 @@ fn answers() {
             "rewrite(CASE(f), 9, 8, out, 55)",
             &[("written", 55), ("answer", 55)],
         ),
+        (
+            "regular(CASE(holding), area, 192, out, 32)",
+            &[("written", 32), ("answer", 32)],
+        ),
     ];
     let mut lines = vec![];
     for (call, said) in calls {
@@ -187,8 +215,8 @@ fn answers() {
             lines.push(number(format!("hoidrul_{helper}(hoidrul_{call})"), *value));
         }
     }
-    for (state, holds) in STATES.iter().zip([1, 0, 0, 0, 0, 0]) {
-        lines.push(number(format!("hoidrul_holds({JUDGED}, {state})"), holds));
+    for (state, said) in STATES.iter().zip([1, 0, 0, 0, 0, 0]) {
+        lines.extend(holds(JUDGED, REGULAR, state, said));
     }
     check("answers", &data(), &lines);
 }
@@ -204,8 +232,39 @@ fn start_states() {
         // The empty set, which is an answer.
         starts_hold("holding", OPENED, "0", 0),
         starts_hold("starting_nowhere", NOWHERE, "0", 1),
+        regular_starts_hold("holding", REGULAR, 1),
+        regular_starts_hold("failing", REGULAR, 0),
+        regular_starts_hold("starting_nowhere", REGULAR, 1),
     ];
     check("start_states", &data(), &lines);
+}
+
+/// On 256 states, of which every third has proposition 0: sets of more than a byte, and pairs whose
+/// numbers have two.
+#[test]
+fn large_tables() {
+    let labels = Vec::from_iter((0..=255).map(|state| u8::from(state % 3 == 0)));
+    let thirds = Vec::from_iter((0..=255).step_by(3));
+    let all = Vec::from_iter(0..=255);
+    let large = |labels: &[u8], starts: &[u8]| file(labels, &[], &[[2, 0, 0]], starts, 0);
+    let files = [
+        ("thirds", large(&labels, &thirds), 1),
+        ("failing", large(&labels, &all), 0),
+        ("filled", large(&[1; 256], &all), 1),
+    ];
+    let mut data = String::from("uint8_t area[64], out[32];\n");
+    let mut lines = vec![];
+    for (name, file, hold) in &files {
+        data += &bytes(name, file);
+        let reply = format!("hoidrul_regular({name}, sizeof {name}, area, 64, out, 32)");
+        lines.push(regular_starts_hold(name, &reply, *hold));
+        for state in [0, 1, 7, 8, 9, 15, 16, 127, 129, 254, 255, 256, 258, 65_535] {
+            let holds = state < 256 && (*name == "filled" || state % 3 == 0);
+            let call = format!("hoidrul_regular_holds({reply}, out, {state})");
+            lines.push(number(call, holds.into()));
+        }
+    }
+    check("large_tables", &data, &lines);
 }
 
 /// More than a case can have counts as the most.

@@ -35,6 +35,18 @@ fn a_start_state_that_does_not_hold() {
     assert!(print.ends_with("\nstarts no\n"), "{print}");
 }
 
+/// From 128 on, with a worn roller, only 192 to 207 hold; start state 128 does not. No rounds are told.
+#[test]
+fn a_regular_rule_on_256_states() {
+    let print = printed(holds(&[&case("duplex_printer.large")]));
+    let word = |state| match state {
+        0..128 | 192..208 => "yes",
+        _ => "no",
+    };
+    let lines: String = (0..256).map(|s| format!("{s} {}\n", word(s))).collect();
+    assert_eq!(print, format!("states 256\n{lines}starts no\n"));
+}
+
 #[test]
 fn from_standard_input() {
     let file = File::open(case("two_wheels.case")).unwrap();
@@ -63,10 +75,14 @@ fn refusals() {
     let mut file = fs::read(case("f.case")).unwrap();
     file[24 + 2 * 3 + 2] = 2;
     fs::write(&node, file).unwrap();
+    // 17 states, and the rule τ.
+    let large = scratch("not_regular.large");
+    fs::write(&large, common::file(&[0; 17], &[], &[[5, 0, 0]], &[], 0)).unwrap();
     for (path, line, reason) in [
         (zeros, "refused 1 0\n", Reason::Pairs),
         (&no_case(), "refused 1 0\n", Reason::Pairs),
         (&node, "refused 5 2\n", Reason::Node),
+        (&large, "refused 14 0\n", Reason::Form),
     ] {
         let output = holds(&[path]);
         assert_eq!(text(output.stdout), line);

@@ -4,10 +4,12 @@ mod common;
 use common::{file, Triple};
 use hoidrul::{
     Reason, Refusal, LABELS, LONGEST, MOST_ACTIONS, MOST_LAWS, MOST_NODES, MOST_PADDING,
-    MOST_PROPOSITIONS, MOST_STATES, MOST_VARIABLES,
+    MOST_PROPOSITIONS, MOST_STATES, MOST_VARIABLES, REGULAR_LONGEST, REGULAR_MOST_STATES,
+    REGULAR_NODE_BYTES, REGULAR_SET_BYTES,
 };
 
 const TAU: Triple = [5, 0, 0];
+const TT: Triple = [0, 0, 0];
 
 /// The file of so much is a case, and with one more it is refused for this reason.
 fn ends_at(most: usize, reason: Reason, file: impl Fn(u8) -> Vec<u8>) {
@@ -52,12 +54,50 @@ fn of_a_file() {
     assert_eq!(LONGEST, 16 + sections + 3 * MOST_PADDING);
 }
 
+/// Of the rule tt, as its count of states.
+fn regular(labels: usize, steps: &[Triple], starts: &[u8]) -> Result<usize, Reason> {
+    let file = file(&vec![0; labels], steps, &[TT], starts, 0);
+    let reply = hoidrul::regular(&file, &mut [0; REGULAR_NODE_BYTES]);
+    reply
+        .map(|verdict| verdict.count)
+        .map_err(|refusal| refusal.reason)
+}
+
+#[test]
+fn of_regular_rules() {
+    const MOST: usize = REGULAR_MOST_STATES;
+    assert_eq!(regular(MOST, &[[255, 7, 255]], &[255]), Ok(MOST));
+    assert_eq!(regular(MOST + 1, &[], &[]), Err(Reason::Labels));
+    let room = REGULAR_LONGEST - 16 - MOST - 4;
+    assert!(room.is_multiple_of(3));
+    let step = |i: usize| [(i / 2048) as u8, (i / 256 % 8) as u8, (i % 256) as u8];
+    let steps = Vec::from_iter((0..room / 3).map(step));
+    assert_eq!(regular(MOST, &steps, &[]), Ok(MOST));
+    assert_eq!(regular(MOST, &steps, &[0]), Err(Reason::Pairs));
+}
+
+#[test]
+fn of_areas_for_regular_rules() {
+    for nodes in [1, 2, MOST_NODES] {
+        let file = one(&[], &vec![TT; nodes]);
+        let needed = REGULAR_NODE_BYTES * nodes;
+        assert_eq!(hoidrul::regular_work_area(&file), Ok(needed));
+        let reply = |bytes, room| {
+            let (work, out) = (&mut vec![0; bytes][..], &mut vec![0; room][..]);
+            hoidrul::regular_into(&file, work, out).map_err(|refusal| refusal.reason)
+        };
+        assert_eq!(reply(needed, REGULAR_SET_BYTES), Ok(REGULAR_SET_BYTES));
+        assert_eq!(reply(needed, REGULAR_SET_BYTES - 1), Err(Reason::Room));
+        assert_eq!(reply(needed - 1, REGULAR_SET_BYTES), Err(Reason::Work));
+    }
+}
+
 /// Each law fits some node of this rule, and no law of another number does.
 #[test]
 fn of_laws() {
     let nodes = [
         TAU,
-        [0, 0, 0],
+        TT,
         [10, 0, 1], // law 1
         [10, 1, 0], // laws 2 and 3
         [10, 2, 1], // law 4

@@ -2,20 +2,25 @@
 mod common;
 
 use common::Triple;
-use hoidrul::{Refusal, LABELS, LONGEST, MOST_PADDING, RULE, STACK};
+use hoidrul::{Refusal, LABELS, LONGEST, MOST_PADDING, REGULAR_LONGEST, RULE, STACK};
 use std::sync::Barrier;
 use std::thread::{self, Builder};
 
 /// The file of a case whose states are all start states, with as much padding as there can be.
 fn file(labels: &[u8], steps: &[Triple], nodes: &[Triple]) -> Vec<u8> {
-    let starts: Vec<u8> = (0..labels.len() as u8).collect();
+    let starts: Vec<u8> = (0..labels.len()).map(|state| state as u8).collect();
     common::file(labels, steps, nodes, &starts, MOST_PADDING)
 }
 
 /// Every step that 16 states can have, in order.
 fn all_steps() -> Vec<Triple> {
-    let step = |i: u16| [(i / 128) as u8, (i / 16 % 8) as u8, (i % 16) as u8];
-    (0..2048).map(step).collect()
+    steps(16, 2048)
+}
+
+/// So many of the steps that these states can have, in order.
+fn steps(states: usize, count: usize) -> Vec<Triple> {
+    let step = |i: usize| [i / states / 8, i / states % 8, i % states].map(|byte| byte as u8);
+    (0..count).map(step).collect()
 }
 
 /// 64 nodes without a binder, each with the one below twice, so that all are shared.
@@ -35,6 +40,19 @@ fn binders(kind: impl Fn(u8) -> u8) -> Vec<Triple> {
     nodes.extend((30..47).map(|below| [8, below, below]));
     nodes.extend((0..16).map(|v| [kind(v), v, v + 47]));
     nodes
+}
+
+/// 64 nodes of a regular rule: a binder over chops within chops, with its variable at the bottom.
+fn tower(kind: u8, modality: Triple) -> Vec<Triple> {
+    let mut nodes = vec![modality, [4, 0, 0]];
+    nodes.extend((1..62).map(|below| [10, 0, below]));
+    nodes.push([kind, 0, 62]);
+    nodes
+}
+
+/// Of a table for regular rules alone, with as many steps as have room.
+fn large(nodes: &[Triple]) -> Vec<u8> {
+    file(&[255; 256], &steps(256, 21_601), nodes)
 }
 
 fn worst_cases() -> Vec<Vec<u8>> {
@@ -59,10 +77,14 @@ fn worst_cases() -> Vec<Vec<u8>> {
             &all_steps(),
             &[&one_kind[..63], &[[11, 0, 62]]].concat(),
         ),
+        large(&tower(12, [6, 0, 0])),
+        large(&tower(11, [14, 255, 0])),
+        large(&one_kind),
+        large(&binders(|v| 11 + v % 2)),
     ]
 }
 
-/// What the six entries reply, lent areas from the heap.
+/// What every entry replies, lent areas from the heap.
 fn replies(file: &[u8]) -> Vec<Result<Vec<u8>, Refusal>> {
     let written = |call: &dyn Fn(&mut [u8]) -> Result<usize, Refusal>| {
         let mut out = vec![0; LONGEST];
@@ -83,6 +105,7 @@ fn replies(file: &[u8]) -> Vec<Result<Vec<u8>, Refusal>> {
         written(&|out| hoidrul::merge(file, 0, 1, out)),
         written(&|out| hoidrul::rewrite(file, 9, 63, out)),
         written(&|out| hoidrul::rewrite(file, 8, 40, out)),
+        written(&|out| hoidrul::regular_into(file, &mut vec![0; 64 * 64], out)),
     ]
 }
 
@@ -91,6 +114,7 @@ fn replies(file: &[u8]) -> Vec<Result<Vec<u8>, Refusal>> {
 fn every_entry_fits() {
     let cases = worst_cases();
     assert_eq!(cases[0].len(), LONGEST);
+    assert!(REGULAR_LONGEST - cases[8].len() < 3);
     let barrier = Barrier::new(cases.len());
     thread::scope(|scope| {
         let call = |file| {
@@ -114,9 +138,10 @@ fn every_entry_fits() {
 fn answers_and_refusals() {
     let answered = |file: &Vec<u8>| replies(file).iter().filter(|reply| reply.is_ok()).count();
     let counts: Vec<usize> = worst_cases().iter().map(answered).collect();
-    assert_eq!(counts, [6, 5, 6, 6, 6, 5, 0, 0]);
+    assert_eq!(counts, [6, 5, 6, 7, 7, 6, 0, 0, 1, 1, 1, 1]);
     let numbers = |file: &Vec<u8>| hoidrul::vet(file, RULE).map_err(Refusal::number).err();
     let numbers: Vec<_> = worst_cases().iter().map(numbers).collect();
     assert_eq!(numbers[..6], [None; 6]);
-    assert_eq!(numbers[6..], [Some(7), Some(6)]);
+    assert_eq!(numbers[6..8], [Some(7), Some(6)]);
+    assert_eq!(numbers[8..], [Some(1); 4], "too large for the others");
 }

@@ -1,5 +1,5 @@
 //! A checker of case files, written from document 01 and requests 2026-01 and 2026-03 to
-//! 2026-05 alone, which docs/SPECIFICATION.md restates.
+//! 2026-06 alone, which docs/SPECIFICATION.md restates.
 //!
 //! It is the yardstick for the proved library: meant to be seen right, not to be fast, and to
 //! work by other means than the proved code wherever there is a choice.
@@ -19,7 +19,10 @@ mod merging;
 mod model;
 mod node;
 mod output;
+mod profile;
+mod reach;
 mod refusal;
+mod regular;
 mod rewriting;
 mod sets;
 mod vetting;
@@ -33,6 +36,9 @@ pub use judging::{judge, starts_hold, Verdict};
 pub use meaning::{meaning, Meaning};
 pub use merging::merge;
 pub use node::{kinds, members, Shape};
+pub use profile::is_regular;
+pub use reach::reached;
 pub use refusal::Refusal;
+pub use regular::{regular, regular_starts_hold, regular_states};
 pub use rewriting::rewrite;
 pub use vetting::{open, parse, parse_within, vet, Limits, MOST_NODES, MOST_PADDING, PAIRS_LENGTH};

@@ -1,7 +1,8 @@
 //! What a rule looks at (docs/SPECIFICATION.md, 4.9).
 use crate::case::{Case, Triple};
 use crate::node::kinds::{BOX, COMPLEMENT, DIAMOND, GROUP_BOX, GROUP_DIAMOND, PROPOSITION};
-use crate::node::{members, Shape};
+use crate::node::members;
+use crate::reach::reached;
 use std::collections::BTreeSet;
 
 /// The propositions and the actions that likeness compares.
@@ -12,16 +13,11 @@ pub struct Looks {
 }
 
 impl Looks {
-    /// Those in the nodes that the root reaches: each node is walked once, however often it is named.
+    /// Those in the nodes that the root reaches.
     pub fn of(case: &Case) -> Looks {
         let mut looks = Looks::default();
-        let mut seen = BTreeSet::new();
-        let mut waiting = vec![usize::from(case.root)];
-        while let Some(number) = waiting.pop() {
-            if seen.insert(number) {
-                looks.extend(case.nodes[number]);
-                waiting.extend(Shape::of(case.nodes[number]).named());
-            }
+        for number in reached(case) {
+            looks.extend(case.nodes[number]);
         }
         looks
     }

@@ -4,7 +4,7 @@ use super::Tables;
 
 pub struct Indexed<W>(pub W);
 
-impl<W: Words> Tables for Indexed<W> {
+impl<W: Words<u16>> Tables for Indexed<W> {
     fn word(&self, at: usize) -> u16 {
         self.0.get(at)
     }

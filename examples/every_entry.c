@@ -1,8 +1,9 @@
-/* Calls all six functions of hoidrul.h on one case file. From the repository's root, after rt staticlib hoidrul:
+/* Calls every function of hoidrul.h on one case file. From the repository's root, after rt staticlib hoidrul:
  *
- *     cc -I include examples/all_six.c target/staticlib/libhoidrul.a
+ *     cc -I include examples/every_entry.c target/staticlib/libhoidrul.a
  *     ./a.out cases/two_wheels.case
  *
+ * Of a case that is too large for the others, hoidrul_regular alone is called.
  * A refusal prints its number, its place and its words on standard error, and the exit status is 1. */
 #include <hoidrul.h>
 #include <inttypes.h>
@@ -27,13 +28,13 @@ static void fail(const char *what)
     exit(EXIT_FAILURE);
 }
 
-/* One byte more than a case can have is enough to see that a file is too long. */
-static size_t read_file(uint8_t file[HOIDRUL_LONGEST + 1])
+/* One byte more than a file may have is enough to see that it is too long. */
+static size_t read_file(uint8_t file[HOIDRUL_REGULAR_LONGEST + 1])
 {
     FILE *stream = fopen(path, "rb");
     if (!stream)
         fail(path);
-    size_t len = fread(file, 1, HOIDRUL_LONGEST + 1, stream);
+    size_t len = fread(file, 1, HOIDRUL_REGULAR_LONGEST + 1, stream);
     if (ferror(stream))
         fail(path);
     fclose(stream);
@@ -64,6 +65,18 @@ static void judge(const uint8_t *file, size_t len)
     printf("rounds: %" PRIu64 "\n", hoidrul_rounds(verdict));
     uint64_t starts = hoidrul_open(file, len, HOIDRUL_STARTS);
     printf("every start state holds: %s\n", hoidrul_starts_hold(file, starts, verdict) ? "yes" : "no");
+}
+
+/* By the function for regular rules: which states hold, and whether every start state does. */
+static void judge_regular(const uint8_t *file, size_t len)
+{
+    uint8_t work[HOIDRUL_MOST_NODES * HOIDRUL_REGULAR_NODE_BYTES], out[HOIDRUL_REGULAR_SET_BYTES];
+    uint64_t reply = answer(hoidrul_regular(file, len, work, sizeof work, out, sizeof out));
+    printf("the rule is regular\nholding:");
+    for (size_t state = 0; state < HOIDRUL_REGULAR_MOST_STATES; state++)
+        if (hoidrul_regular_holds(reply, out, state))
+            printf(" %zu", state);
+    printf("\nevery start state holds: %s\n", hoidrul_regular_starts_hold(file, reply, out) ? "yes" : "no");
 }
 
 /* Merges the first state that has a lower one alike to it with that one. */
@@ -99,21 +112,34 @@ static void rewrite_first(const uint8_t *file, size_t len, size_t nodes)
         }
 }
 
-int main(int argc, char **argv)
+static void call_all(const uint8_t *file, size_t len)
 {
-    uint8_t file[HOIDRUL_LONGEST + 1];
-    if (argc != 2) {
-        fprintf(stderr, "usage: all_six CASE\n");
-        return EXIT_FAILURE;
-    }
-    path = argv[1];
-    size_t len = read_file(file);
     uint64_t counts = answer(hoidrul_vet(file, len, HOIDRUL_LABELS));
     printf("states: %zu\nnodes: %zu\n", hoidrul_states(counts), hoidrul_nodes(counts));
     print_sections(file, len);
     judge(file, len);
+    /* The form is tested before the areas. */
+    if (hoidrul_number(hoidrul_regular(file, len, NULL, 0, NULL, 0)) == HOIDRUL_REASON_FORM)
+        printf("the rule is not regular\n");
+    else
+        judge_regular(file, len);
     merge_first(file, len);
     rewrite_first(file, len, hoidrul_nodes(counts));
+}
+
+int main(int argc, char **argv)
+{
+    static uint8_t file[HOIDRUL_REGULAR_LONGEST + 1];
+    if (argc != 2) {
+        fprintf(stderr, "usage: every_entry CASE\n");
+        return EXIT_FAILURE;
+    }
+    path = argv[1];
+    size_t len = read_file(file);
+    if (hoidrul_refused(hoidrul_vet(file, len, HOIDRUL_LABELS)))
+        judge_regular(file, len);
+    else
+        call_all(file, len);
     if (fclose(stdout))
         fail("standard output");
     return EXIT_SUCCESS;
