@@ -1,9 +1,11 @@
 #!/usr/bin/env python3
 """Measures anew what docs/PERFORMANCE.md tells: builds the proved archive and the benchmark, runs it (some minutes), writes
-docs/ratios.tsv, docs/groups.tsv and docs/performance.tsv, fills the page's tables from them and draws the plot.
+docs/ratios.tsv, docs/groups.tsv, docs/performance.tsv, docs/regular_ratios.tsv and docs/regular.tsv, fills the page's tables
+from them and draws the plots.
 
-    python3 docs/measure.py           everything
-    python3 docs/measure.py tables    the page's tables and the plot alone, from the files that are there
+    python3 docs/measure.py            everything
+    python3 docs/measure.py regular    the judge of regular rules alone
+    python3 docs/measure.py tables     the page's tables and the plots alone, from the files that are there
 """
 import csv
 import os
@@ -98,6 +100,18 @@ def deepest():
     fill("deepest", markdown(["n", "Rounds a level", "One kind: levels", "Time", "Alternating: levels", "Time"], rows))
 
 
+def regular():
+    """The judge of regular rules against unchecked Rust, and against the plain checker."""
+    table = read("regular_ratios.tsv")
+    head = ["Case", "Steps", "m", "Proved", "of it vetting", "Unchecked judging", "Whole", "Judging", "nine of ten"]
+    fill("regular", markdown(head, (
+        [r["case"], r["steps"], r["m"], shown(r["proved"]), shown(r["vetting"]), shown(r["unchecked"]), r["whole"], r["judging"], f"{r['low']} to {r['high']}"]
+        for r in table
+    )))
+    percent = ([r["case"], r["steps"], shown(r["proved"]), shown(r["plain"]), f"{100 * int(r['proved']) / int(r['plain']):.0f}"] for r in table)
+    fill("regular plain", markdown(["Case", "Steps", "Proved", "Plain", "Percent"], percent))
+
+
 def processor():
     """The processor's name, as the system has it."""
     with open("/proc/cpuinfo", encoding="utf-8") as lines:
@@ -105,25 +119,37 @@ def processor():
     return names[0] if names else "unnamed processor"
 
 
-def measure():
+FIRST_JUDGE = [("ratios", "ratios.tsv"), ("groups", "groups.tsv"), ("growth", "performance.tsv")]
+REGULAR = [("regular-ratios", "regular_ratios.tsv"), ("regular-growth", "regular.tsv")]
+
+
+def measure(blocks, tables):
+    """Takes the times of these tables, and tells of the machine in these blocks."""
     root = HERE.parent
     before = os.getloadavg()[0]
     subprocess.run(["rt", "staticlib", "hoidrul"], cwd=root, check=True)
     subprocess.run(["cargo", "build", *CARGO], cwd=root, check=True)
-    for what, name in [("ratios", "ratios.tsv"), ("groups", "groups.tsv"), ("growth", "performance.tsv")]:
+    for what, name in tables:
         subprocess.run(["cargo", "run", *CARGO, "--", what, f"docs/{name}"], cwd=root, check=True)
     after = os.getloadavg()[0]
     load = f"load average {before:.1f} before the run, and {after:.1f} after it with the run's own 1."
-    fill("machine", [f"{processor()}, {os.cpu_count()} cores;", load])
+    for block in blocks:
+        fill(block, [f"{processor()}, {os.cpu_count()} cores;", load])
 
 
 if __name__ == "__main__":
-    if sys.argv[1:] == []:
-        measure()
-    elif sys.argv[1:] != ["tables"]:
-        sys.exit(__doc__)
+    match sys.argv[1:]:
+        case []:
+            measure(["machine", "regular machine"], FIRST_JUDGE + REGULAR)
+        case ["regular"]:
+            measure(["regular machine"], REGULAR)
+        case ["tables"]:
+            pass
+        case _:
+            sys.exit(__doc__)
     ratios()
     groups()
     worst()
     deepest()
+    regular()
     plot.main()

@@ -1,5 +1,6 @@
 #!/usr/bin/env python3
-"""Draws docs/performance.svg from docs/performance.tsv: how the time of a judgement grows with states, nodes and nesting."""
+"""Draws how the time of a judgement grows: docs/performance.svg from docs/performance.tsv, with states, nodes and nesting, and for
+the judge of regular rules docs/regular.svg from docs/regular.tsv, with states, steps and nesting."""
 import csv
 import math
 from pathlib import Path
@@ -9,7 +10,7 @@ from xml.sax.saxutils import escape
 HERE = Path(__file__).resolve().parent
 WIDTH, HEIGHT = 420, 300
 LEFT, TOP, GAP_X, GAP_Y = 70, 50, 190, 90
-UNITS = {3: "1 µs", 4: "10 µs", 5: "100 µs", 6: "1 ms", 7: "10 ms", 8: "100 ms", 9: "1 s", 10: "10 s", 11: "100 s"}
+UNITS = {2: "100 ns", 3: "1 µs", 4: "10 µs", 5: "100 µs", 6: "1 ms", 7: "10 ms", 8: "100 ms", 9: "1 s", 10: "10 s", 11: "100 s"}
 COLOURS = ["#0b6e99", "#c2410c", "#15803d", "#7c3aed", "#a16207", "#be185d"]
 
 
@@ -31,28 +32,30 @@ class Panel(NamedTuple):
         return HEIGHT * (high - math.log10(nanoseconds)) / (high - low)
 
 
-def rows():
-    with open(HERE / "performance.tsv", encoding="utf-8") as table:
+def rows(name):
+    with open(HERE / name, encoding="utf-8") as table:
         for row in csv.DictReader(table, delimiter="\t"):
             yield {key: value if key == "series" else int(value) for key, value in row.items()}
 
 
-def panels(table):
-    def curve(label, series, x, **where):
-        chosen = [r for r in table if r["series"] == series and all(r[k] == v for k, v in where.items())]
-        return label, [(r[x], r["nanoseconds"]) for r in chosen]
+def selected(table, label, series, x, **where):
+    """A curve: its label, and a point for each row of the series."""
+    chosen = [r for r in table if r["series"] == series and all(r[k] == v for k, v in where.items())]
+    return label, [(r[x], r["nanoseconds"]) for r in chosen]
 
+
+def panels(table):
     def by_states(series):
         counts = sorted({r["n"] for r in table if r["series"] == series})
-        return [curve(f"n = {n}", series, "nesting", n=n) for n in counts]
+        return [selected(table, f"n = {n}", series, "nesting", n=n) for n in counts]
 
     states = [
-        curve("m = 64, no binder", "64 nodes, no binder", "n"),
-        curve("m = 8, one binder", "8 nodes, one binder", "n"),
+        selected(table, "m = 64, no binder", "64 nodes, no binder", "n"),
+        selected(table, "m = 8, one binder", "8 nodes, one binder", "n"),
     ]
     nodes = [
-        curve("one binder", "12 states, one binder", "m"),
-        curve("no binder", "12 states, no binder", "m"),
+        selected(table, "one binder", "12 states, one binder", "m"),
+        selected(table, "no binder", "12 states, no binder", "m"),
     ]
     levels = list(range(1, 9))
     return [
@@ -60,6 +63,34 @@ def panels(table):
         Panel("With nodes, at 12 states", "nodes m", [6, 8, 12, 16, 24, 32, 48, 64], True, (4, 7), nodes),
         Panel("With nesting, binders of one kind", "levels", levels, False, (3, 11), by_states("binders of one kind")),
         Panel("With nesting, μ and ν alternating", "levels", levels, False, (3, 11), by_states("alternating binders")),
+    ]
+
+
+def regular_panels(table):
+    for row in table:
+        row["states a level"] = row["n"] // max(row["nesting"], 1)
+
+    def by_rounds(series):
+        rounds = sorted({r["states a level"] for r in table if r["series"] == series})
+        return [selected(table, f"{r} rounds", series, "nesting", **{"states a level": r}) for r in rounds]
+
+    states = [
+        selected(table, "first judge", "first judge, a step a state", "n"),
+        selected(table, "one step a state", "one binder, a step a state", "n"),
+        selected(table, "84 steps a state", "one binder, many steps a state", "n"),
+        selected(table, "no binder, 84", "no binder, many steps a state", "n"),
+    ]
+    steps = [
+        selected(table, "one binder", "one binder", "steps"),
+        selected(table, "no binder", "no binder", "steps"),
+    ]
+    levels = list(range(1, 9))
+    counts = [255, 511, 1023, 2047, 4095, 8191, 21690]
+    return [
+        Panel("With states", "states n", [2, 4, 8, 16, 32, 64, 128, 256], True, (2, 7), states),
+        Panel("With steps, at 256 states", "steps", counts, True, (4, 7), steps),
+        Panel("With nesting, binders of one kind", "levels", levels, False, (3, 11), by_rounds("binders of one kind")),
+        Panel("With nesting, μ and ν alternating", "levels", levels, False, (3, 11), by_rounds("alternating binders")),
     ]
 
 
@@ -82,7 +113,7 @@ def frame(panel):
     if high > 10:
         minute = panel.down(60e9)
         yield line(0, minute, WIDTH, minute, 'stroke="#888888" stroke-dasharray="5 4"')
-        yield text(WIDTH, minute + 14, "a minute", "end", 'fill="#666666"')
+        yield text(6, minute + 14, "a minute", "start", 'fill="#666666"')
     for value in panel.marks:
         x = panel.across(value)
         yield line(x, HEIGHT, x, HEIGHT + 5, 'stroke="#444444"')
@@ -121,8 +152,9 @@ def draw(drawn):
 
 
 def main():
-    picture = "\n".join(draw(panels(list(rows())))) + "\n"
-    (HERE / "performance.svg").write_text(picture, encoding="utf-8")
+    for name, chosen in [("performance", panels), ("regular", regular_panels)]:
+        picture = "\n".join(draw(chosen(list(rows(f"{name}.tsv"))))) + "\n"
+        (HERE / f"{name}.svg").write_text(picture, encoding="utf-8")
 
 
 if __name__ == "__main__":
