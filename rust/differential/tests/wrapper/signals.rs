@@ -58,7 +58,8 @@ fn a_script_that_is_killed() {
     }
 }
 
-/// At any moment, of which each has another command running.
+/// At any moment, of which each has another command running. Once a script under bash went on after the
+/// signal, perhaps since it came just when bash began to wait: then another one has to end it.
 #[test]
 fn any_moment() {
     let wrapper = wrapper_of_slow("signal at any moment");
@@ -67,6 +68,10 @@ fn any_moment() {
             let mut call = Call::begin(&wrapper, shell, &format!("{JUDGE} slow"));
             sleep(Duration::from_millis(moment));
             call.send("TERM");
+            if !call.ends_within(Duration::from_secs(10)) {
+                println!("another TERM");
+                call.send("TERM");
+            }
             call.is_ended_by(TERM);
             call.leaves_nothing_soon();
         }
