@@ -79,17 +79,6 @@ impl Call<'_> {
         until("the end", || self.child.try_wait().expect("a status"))
     }
 
-    pub fn ends_within(&mut self, time: Duration) -> bool {
-        let began = Instant::now();
-        while began.elapsed() < time {
-            if self.child.try_wait().expect("a status").is_some() {
-                return true;
-            }
-            sleep(Duration::from_millis(5));
-        }
-        false
-    }
-
     pub fn is_ended_by(&mut self, (name, number): (&str, i32)) {
         let status = self.end();
         assert_eq!(status.signal(), Some(number), "{name}: {status}");
