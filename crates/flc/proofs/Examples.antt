@@ -2,9 +2,12 @@
 -- Every proof is refl.
 use mathlib.Core.Path.{_≡_, refl}
 use mathlib.Core.Bool.{Bool, true, false, not}
-use Prim.Native.Nat.{ℕ, zero, suc, _-_}
+use Prim.Native.Nat.{ℕ, zero, suc, _*_, _-_}
+use mathlib.Core.List.{[], _∷_}
 use lib.Dec.{eqb}
 use Rattle.flc.specs.Sets.{both, either, implies, forAll, forSome, among, first, has, setOf}
+use Rattle.flc.specs.Sums.{sumOf, countOf}
+use Rattle.flc.specs.Permutations.{sumOver, times, isPermutation}
 use Rattle.flc.specs.Functions.{contained, below, monotone, agree, forAllFun, forSomeFun, meet, join, approximant, rounds}
 use Rattle.flc.specs.Formula.{Table, top, bottom, tau, prop, nprop, modal, or, and, chop, Formula, atom, var, op, fix}
 use Rattle.flc.specs.Formula.{stepsBy, meanAtom, put, mean, none, free}
@@ -265,3 +268,23 @@ seventh = (refl, refl)
 labels : (alike (onlyProps 1) fork 1 0 ≡ false) × (alike (onlyProps 254) fork 1 0 ≡ true)
 unfolding fork alike bisimilar matching met reduct forSomeFun forAllFun forAll forSome has both either implies
 labels = (refl, refl)
+
+-- ---- sums and lists of numbers
+-- 0 + 3 + 6; of the set {0, 2}, how many members it has; 3 * 2 + 3 * 0; 0 and 2 stand once and twice in a list
+sums :
+    (sumOf 3 (λ i. 3 * i) ≡ 9)
+    × (countOf 3 (has 5) ≡ 2)
+    × (sumOver (λ i. 3 * i) (2 ∷ 0 ∷ []) ≡ 6)
+    × (times 0 (2 ∷ 0 ∷ 2 ∷ []) ≡ 1)
+    × (times 2 (2 ∷ 0 ∷ 2 ∷ []) ≡ 2)
+unfolding sumOf countOf has sumOver times
+sums = (refl, refl, refl, refl, refl)
+
+-- each number below 3 once; one of them twice; another number besides; another number in place of one
+each-once :
+    (isPermutation 3 (2 ∷ 0 ∷ 1 ∷ []) ≡ true)
+    × (isPermutation 3 (2 ∷ 0 ∷ 2 ∷ []) ≡ false)
+    × (isPermutation 3 (2 ∷ 0 ∷ 1 ∷ 3 ∷ []) ≡ false)
+    × (isPermutation 3 (2 ∷ 0 ∷ 3 ∷ []) ≡ false)
+unfolding isPermutation times sumOver forAll both
+each-once = (refl, refl, refl, refl)

@@ -3,6 +3,8 @@ pub mod Tests
 pub mod Masks
 pub mod Order
 pub mod FixedPoints
+pub mod Sums
+pub mod Permutations
 pub mod Weight
 pub mod Rounds
 pub mod Meanings

@@ -2,43 +2,15 @@
 -- They are at most n and n * 2 ^ n, rise with the set and the function, and what is above another of as many members is that one.
 use mathlib.Core.Path.{_≡_}
 use mathlib.Core.Bool.{Bool, true, false}
-use Prim.Native.Nat.{ℕ, zero, suc, _+_, _*_, _^_, _≤_, _<_, suc-le-suc}
-use native.Mathlib.Nat.{le-of-suc-le-suc, not-suc-le-zero}
+use Prim.Native.Nat.{ℕ, _*_, _^_, _≤_, _<_}
 use native.Mathlib.Omega.{arith}
 use lib.Dec.{T}
 use Rattle.flc.specs.Sets.{has, bit}
 use Rattle.flc.specs.Functions.{Fun}
-use Rattle.flc.proofs.Masks.{bit-le}
+use Rattle.flc.specs.Sums.{sumOf, countOf}
 use Rattle.flc.specs.Order.{signed, Sub, Below}
-
--- f 0 + .. + f (k - 1)
-sum : ℕ → (ℕ → ℕ) → ℕ
-sum zero f = 0
-sum (suc k) f = f zero + sum k (λ i. f (suc i))
-
--- of terms that are at most c
-sum-max : (k c : ℕ) (f : ℕ → ℕ) → ((i : ℕ) → i < k → f i ≤ c) → sum k f ≤ c * k
-unfolding sum
-sum-max zero c f h = omega arith
-sum-max (suc k) c f h = omega (arith, h zero (omega arith), sum-max k c (λ i. f (suc i)) (λ i j. h (suc i) (suc-le-suc j)))
-
--- of smaller terms
-sum-le : (k : ℕ) (f g : ℕ → ℕ) → ((i : ℕ) → i < k → f i ≤ g i) → sum k f ≤ sum k g
-unfolding sum
-sum-le zero f g h = omega arith
-sum-le (suc k) f g h = omega (arith, h zero (omega arith), sum-le k (λ i. f (suc i)) (λ i. g (suc i)) (λ i j. h (suc i) (suc-le-suc j)))
-
--- sums of smaller terms that are equal have equal terms
-sum-eq : (k : ℕ) (f g : ℕ → ℕ) → ((i : ℕ) → i < k → f i ≤ g i) → sum k f ≡ sum k g → (i : ℕ) → i < k → f i ≡ g i
-unfolding sum
-sum-eq zero f g h e i j = absurd (not-suc-le-zero j)
-sum-eq (suc k) f g h e i j =
-    let l : sum k (λ i. f (suc i)) ≤ sum k (λ i. g (suc i)) = sum-le k (λ i. f (suc i)) (λ i. g (suc i)) (λ i j. h (suc i) (suc-le-suc j)) in
-    let z : f zero ≤ g zero = h zero (omega arith) in
-    elim i as (λ i. i < suc k → f i ≡ g i) [
-      | zero ↦ λ j. omega arith
-      | suc i ↦ λ j. sum-eq k (λ i. f (suc i)) (λ i. g (suc i)) (λ i j. h (suc i) (suc-le-suc j)) (omega arith) i (le-of-suc-le-suc j)
-    ] j
+use Rattle.flc.proofs.Masks.{bit-le}
+use Rattle.flc.proofs.Sums.{sum-same, sum-le, sum-eq}
 
 -- digits as tests
 pub bit-rises : (a b : Bool) → (T a → T b) → bit a ≤ bit b
@@ -51,34 +23,34 @@ bit-back true b e t = tt
 bit-back false true e t = absurd (omega arith)
 bit-back false false e t = t
 
--- 1 if s is in x, with the flag false: if it is not
-abbrev member : Bool → ℕ → ℕ → ℕ
-member d x s = bit (signed d (has x s))
+-- of terms that are at most c
+sum-max : (n c : ℕ) (f : ℕ → ℕ) → ((i : ℕ) → i < n → f i ≤ c) → sumOf n f ≤ c * n
+sum-max n c f h = omega (arith, sum-le n f (λ i. c) h, sum-same n c)
 
 -- the members of a set of n states: with the flag false, those that it lacks
 pub members : Bool → ℕ → ℕ → ℕ
-members d n x = sum n (member d x)
+members d n x = countOf n (λ s. signed d (has x s))
 
 pub members-max : (d : Bool) (n x : ℕ) → members d n x ≤ n
-unfolding members
-members-max d n x = omega (arith, sum-max n 1 (member d x) (λ s k. bit-le (signed d (has x s))))
+unfolding members countOf
+members-max d n x = omega (arith, sum-max n 1 _ (λ s k. bit-le (signed d (has x s))))
 
 -- x below y: then x has no more, and if it has no fewer either, y is below x
 module _ (d : Bool) (n x y : ℕ) (h : Sub d n x y) where
-  each : (s : ℕ) → s < n → member d x s ≤ member d y s
+  each : (s : ℕ) → s < n → bit (signed d (has x s)) ≤ bit (signed d (has y s))
   each s k = bit-rises (signed d (has x s)) (signed d (has y s)) (h s k)
 
   pub members-le : members d n x ≤ members d n y
-  unfolding members
+  unfolding members countOf
   members-le = sum-le n _ _ each
 
   pub members-eq : members d n x ≡ members d n y → Sub d n y x
-  unfolding members
-  members-eq e s k = bit-back (signed d (has x s)) (signed d (has y s)) (sum-eq n (member d x) (member d y) each e s k)
+  unfolding members countOf
+  members-eq e s k = bit-back (signed d (has x s)) (signed d (has y s)) (sum-eq n _ _ each (omega arith) s k)
 
 -- the members at all sets
 pub weight : Bool → ℕ → Fun → ℕ
-weight d n f = sum (2 ^ n) (λ x. members d n (f x))
+weight d n f = sumOf (2 ^ n) (λ x. members d n (f x))
 
 -- each of n states is in each of 2 ^ n sets at most once
 pub weight-max : (d : Bool) (n : ℕ) (f : Fun) → weight d n f ≤ n * 2 ^ n
@@ -96,4 +68,4 @@ module _ (d : Bool) (n : ℕ) (f g : Fun) (h : Below d n f g) where
 
   pub weight-eq : weight d n f ≡ weight d n g → Below d n g f
   unfolding weight
-  weight-eq e x i = members-eq d n (f x) (g x) (h x i) (sum-eq (2 ^ n) (λ x. members d n (f x)) (λ x. members d n (g x)) at e x i)
+  weight-eq e x i = members-eq d n (f x) (g x) (h x i) (sum-eq (2 ^ n) _ _ at (omega arith) x i)

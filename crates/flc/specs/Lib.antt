@@ -1,4 +1,6 @@
 pub mod Sets
+pub mod Sums
+pub mod Permutations
 pub mod Functions
 pub mod Formula
 pub mod Modalities
