@@ -1,0 +1,5 @@
+pub mod Examples
+pub mod KindTables
+pub mod Exchange
+pub mod SameLayout
+pub mod Judging
