@@ -43,3 +43,4 @@ number-small reason.Shape = omega arith
 number-small reason.TooManyNodes = omega arith
 number-small reason.Room = omega arith
 number-small reason.Form = omega arith
+number-small reason.Table = omega arith

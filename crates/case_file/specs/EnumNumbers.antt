@@ -15,7 +15,7 @@ use Rattle.case_file.specs.declared.vetting.Finding.the-variants as find
 use Rattle.case_file.specs.declared.written.Written.{Written}
 use Rattle.case_file.specs.declared.written.Written.the-variants as written
 
--- clauses 8.1 to 8.14: the number of each reason
+-- clauses 8.1 to 8.15: the number of each reason
 abbrev pub number : Reason → ℕ
 number reason.Pairs = 1
 number reason.Labels = 2
@@ -31,6 +31,7 @@ number reason.Shape = 11
 number reason.TooManyNodes = 12
 number reason.Room = 13
 number reason.Form = 14
+number reason.Table = 15
 
 abbrev pub found : Finding → Found
 found finding.Sound = sound

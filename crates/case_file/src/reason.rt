@@ -17,6 +17,7 @@ pub enum Reason {
     TooManyNodes,
     Room,
     Form,
+    Table,
 }
 
 pub struct Refusal {
@@ -45,6 +46,7 @@ impl Refusal {
             Reason::TooManyNodes => 12,
             Reason::Room => 13,
             Reason::Form => 14,
+            Reason::Table => 15,
         }
     }
 }

@@ -1,4 +1,4 @@
-// Internal: the tests of refusals 1 to 7, each over any bytes; serves case_file.
+// Internal: the tests of refusals 1 to 7, each over any bytes; serves case_file and judge_kinds.
 mod limits;
 mod pairs;
 mod tests;

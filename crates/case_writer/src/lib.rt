@@ -1,4 +1,4 @@
-// Internal: writes the sections of a case file, packed, to an output area; serves merging and rewriting.
+// Internal: writes the sections of a case file, packed, to an output area; serves merging, rewriting and judge_kinds.
 mod head;
 mod runs;
 

@@ -1,7 +1,7 @@
 -- Every reply fits in its word: a refusal's place, counts, a verdict's set and rounds, the length of a new file.
 -- Places are small in a file of bytes; rounds are found by a search of n * 2 ^ n numbers, n at most 16; a new file is accepted, and so not long.
 use Prim.Native.Nat.{ℕ, suc, _*_, _^_, _≤_, _<_}
-use mathlib.Core.Bool.{Bool}
+use mathlib.Core.Bool.{Bool, true, false}
 use mathlib.Core.List.{List, [], _∷_}
 use mathlib.Core.Path.{_≡_, refl, ap, _∙_}
 use native.Mathlib.Omega.{arith}
@@ -29,6 +29,11 @@ use Rattle.case_model.proofs.Valid.{accepted-pairs, accepted-valid}
 use Rattle.case_model.proofs.Replying.{own-rows, counted-too}
 use Rattle.case_model.proofs.Places.{Placed, somewhere, then, at-zero, refusals-placed}
 use Rattle.case_model.proofs.Demand.{book-stands}
+use Rattle.judge_kinds_model.specs.KindTables.{isTable}
+use Rattle.judge_kinds_model.specs.Exchange.{exchanged}
+use Rattle.judge_kinds_model.specs.Judging.{judgingKinds}
+use Rattle.judge_kinds_model.proofs.SameLayout.{exchanged-small}
+use Rattle.judge_kinds_model.proofs.Judging.{other-table, by-table}
 use Rattle.regular_model.specs.Judging.{large, answer, judgingRegular}
 use Rattle.regular_model.proofs.Judging.{exact}
 use Rattle.hoidrul.specs.Packing.{Fits, Few, Brief, Short}
@@ -118,3 +123,11 @@ module _ (f : List ℕ) (bytes : (i : ℕ) → byteAt f i < 256) where
   pub regular-fits : (area room : ℕ) → Fits Short (counted (judgingRegular f area room))
   unfolding judgingRegular
   regular-fits area room = shortly large _ answer (search placed depth 8) (λ ok s. omega (arith, exact c .long))
+
+-- by a table of kinds: refusal 15 has place 0, and the exchanged file is of bytes too
+pub judging-kinds-fits : (t f : List ℕ) → ((i : ℕ) → byteAt t i < 256) → ((i : ℕ) → byteAt f i < 256) → (x words : ℕ) → Fits Brief (judgingKinds t f x words)
+judging-kinds-fits t f entries bytes x words = go (isTable t) refl
+  where
+    go : (b : Bool) → isTable t ≡ b → Fits Brief (judgingKinds t f x words)
+    go true e = rw (by-table t f x words e) (judging-fits (exchanged t f) (exchanged-small t f entries bytes) x words)
+    go false e = rw (other-table t f x words e) (omega arith)

@@ -8,6 +8,7 @@ ghost use Rattle.case_model.specs.Merging.{classing, merging};
 ghost use Rattle.case_model.specs.Rewriting.{rewriting};
 ghost use Rattle.case_file.specs.EnumNumbers.{number, writtenReply};
 ghost use Rattle.judge.specs.EnumNumbers.{judgedReply};
+ghost use Rattle.judge_kinds_model.specs.Judging.{judgingKinds};
 ghost use Rattle.regular_model.specs.Judging.{judgingRegular};
 ghost use Rattle.hoidrul.specs.Packing.{packed, countsWord, refusalWord, spanWord, verdictWord, itself, Fits, Brief, Short};
 use case_file::Refusal;
@@ -75,6 +76,14 @@ pub extern "C" fn hoidrul_judge(file: &[u8], set: u16, work: &mut [u16]) -> u64
     ensures { λ _. ⌜ now (work .exit) ≡ cleared (judging (now (file .entry)) set (length (now (work .entry)))) (now (work .entry)) ⌝ }
 {
     verdict_word(judge::judge(file, set, work))
+}
+
+#[no_mangle]
+pub extern "C" fn hoidrul_judge_kinds(kinds: &[u8], file: &[u8], set: u16, work: &mut [u16]) -> u64
+    ensures { λ r. ⌜ r ≡ packed verdictWord (judgingKinds (now (kinds .entry)) (now (file .entry)) set (length (now (work .entry)))) ⌝ }
+    ensures { λ _. ⌜ now (work .exit) ≡ cleared (judgingKinds (now (kinds .entry)) (now (file .entry)) set (length (now (work .entry)))) (now (work .entry)) ⌝ }
+{
+    verdict_word(judge_kinds::judge_kinds(kinds, file, set, work))
 }
 
 #[no_mangle]
