@@ -2,8 +2,10 @@
  *
  *     cc -I include examples/every_entry.c target/staticlib/libhoidrul.a
  *     ./a.out cases/two_wheels.case
+ *     ./a.out cases/lost_steps_made_up.supplier cases/lost_steps_made_up.kinds
  *
- * Of a case that is too large for the others, hoidrul_regular alone is called.
+ * Of a case that is too large for the others, hoidrul_regular alone is called; of one that comes with its supplier's table
+ * of kinds, hoidrul_judge_kinds alone.
  * A refusal prints its number, its place and its words on standard error, and the exit status is 1. */
 #include <hoidrul.h>
 #include <inttypes.h>
@@ -28,15 +30,15 @@ static void fail(const char *what)
     exit(EXIT_FAILURE);
 }
 
-/* One byte more than a file may have is enough to see that it is too long. */
-static size_t read_file(uint8_t file[HOIDRUL_REGULAR_LONGEST + 1])
+/* Reads at most so many bytes. One more than a file may have is enough to see that it is too long. */
+static size_t read_file(const char *name, uint8_t *bytes, size_t most)
 {
-    FILE *stream = fopen(path, "rb");
+    FILE *stream = fopen(name, "rb");
     if (!stream)
-        fail(path);
-    size_t len = fread(file, 1, HOIDRUL_REGULAR_LONGEST + 1, stream);
+        fail(name);
+    size_t len = fread(bytes, 1, most, stream);
     if (ferror(stream))
-        fail(path);
+        fail(name);
     fclose(stream);
     return len;
 }
@@ -50,21 +52,44 @@ static void print_sections(const uint8_t *file, size_t len)
     }
 }
 
-/* On the set of all states: which states hold, the rounds, and whether every start state holds. */
+static uint16_t *work_area(size_t words)
+{
+    uint16_t *work = malloc(words * sizeof *work);
+    if (!work)
+        fail("work area");
+    return work;
+}
+
+/* Which of n states hold, the rounds, and whether every start state holds. */
+static void print_verdict(size_t n, uint64_t verdict, int starts_hold)
+{
+    for (size_t state = 0; state < n; state++)
+        printf("%zu %s\n", state, hoidrul_holds(verdict, state) ? "holds" : "does not hold");
+    printf("rounds: %" PRIu64 "\n", hoidrul_rounds(verdict));
+    printf("every start state holds: %s\n", starts_hold ? "yes" : "no");
+}
+
+/* On the set of all states. */
 static void judge(const uint8_t *file, size_t len)
 {
     uint64_t counts = answer(hoidrul_vet(file, len, HOIDRUL_RULE));
     size_t n = hoidrul_states(counts), words = hoidrul_words(n, hoidrul_nodes(counts));
-    uint16_t *work = malloc(words * sizeof *work);
-    if (!work)
-        fail("work area");
+    uint16_t *work = work_area(words);
     uint64_t verdict = answer(hoidrul_judge(file, len, hoidrul_all_states(n), work, words));
     free(work);
-    for (size_t state = 0; state < n; state++)
-        printf("%zu %s\n", state, hoidrul_holds(verdict, state) ? "holds" : "does not hold");
-    printf("rounds: %" PRIu64 "\n", hoidrul_rounds(verdict));
     uint64_t starts = hoidrul_open(file, len, HOIDRUL_STARTS);
-    printf("every start state holds: %s\n", hoidrul_starts_hold(file, starts, verdict) ? "yes" : "no");
+    print_verdict(n, verdict, hoidrul_starts_hold(file, starts, verdict));
+}
+
+/* The same with a supplier's kinds, read through its table. */
+static void judge_kinds(const uint8_t *kinds, size_t count, const uint8_t *file, size_t len)
+{
+    uint64_t counts = answer(hoidrul_vet_kinds(kinds, count, file, len));
+    size_t n = hoidrul_states(counts), words = hoidrul_words(n, hoidrul_nodes(counts));
+    uint16_t *work = work_area(words);
+    uint64_t verdict = answer(hoidrul_judge_kinds(kinds, count, file, len, hoidrul_all_states(n), work, words));
+    free(work);
+    print_verdict(n, verdict, hoidrul_starts_hold_kinds(file, verdict));
 }
 
 /* By the function for regular rules: which states hold, and whether every start state does. */
@@ -130,13 +155,16 @@ static void call_all(const uint8_t *file, size_t len)
 int main(int argc, char **argv)
 {
     static uint8_t file[HOIDRUL_REGULAR_LONGEST + 1];
-    if (argc != 2) {
-        fprintf(stderr, "usage: every_entry CASE\n");
+    uint8_t kinds[HOIDRUL_KINDS + 1];
+    if (argc != 2 && argc != 3) {
+        fprintf(stderr, "usage: every_entry CASE [KINDS]\n");
         return EXIT_FAILURE;
     }
     path = argv[1];
-    size_t len = read_file(file);
-    if (hoidrul_refused(hoidrul_vet(file, len, HOIDRUL_LABELS)))
+    size_t len = read_file(path, file, sizeof file);
+    if (argc == 3)
+        judge_kinds(kinds, read_file(argv[2], kinds, sizeof kinds), file, len);
+    else if (hoidrul_refused(hoidrul_vet(file, len, HOIDRUL_LABELS)))
         judge_regular(file, len);
     else
         call_all(file, len);

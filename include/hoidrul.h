@@ -1,7 +1,8 @@
 /* Hoidrul checks case files: one state table, one rule of Fixed Point Logic with Chop and a list of start states.
  *
- * Arguments. Every function takes any bytes and any numbers. `file` points to `len` bytes, which are only read.
- * Lent areas, `work` and `out`, must not overlap the file or each other. A pointer may be null where its length is 0.
+ * Arguments. Every function takes any bytes and any numbers. `file` points to `len` bytes and `kinds` to `count`, which
+ * are only read. Lent areas, `work` and `out`, must not overlap these or each other. A pointer may be null where its
+ * length is 0.
  *
  * Replies. A refusal has bit 63 set, its number in bits 32 to 62 and its place in bits 0 to 31; an answer has bit 63
  * clear. Places count from 0: the step in refusal 3, the node in 5 and 6, and else 0. Only opening refuses by 0, without
@@ -12,8 +13,9 @@
  * of its own. They may share a file that nobody writes.
  *
  * Stack. Every call fits in a thread with HOIDRUL_STACK bytes of stack. Threads of 49 KiB were enough in tests, and
- * threads of 48 KiB were not: below its caller's frame hoidrul_regular took 44,984 bytes, hoidrul_judge 13,304 and the
- * other functions at most 5,944. Without hoidrul_regular 18 KiB were enough, and 17 KiB were not.
+ * threads of 48 KiB were not: below its caller's frame hoidrul_regular took 44,984 bytes, hoidrul_judge_kinds, which
+ * copies the file, 20,072, hoidrul_judge 13,368 and the other functions at most 5,944. Without hoidrul_regular 24 KiB
+ * were enough, and 23 KiB were not.
  *
  * Time. Judging can take hours: a binder takes up to n * 2^n rounds on n states, of a regular rule n, and nested binders
  * of alternating kinds multiply theirs. Only ending its thread or process stops a call. The other functions end within
@@ -53,12 +55,14 @@ extern "C" {
 /* Enough stack for a thread that calls, in bytes. */
 #define HOIDRUL_STACK 131072
 
-/* How many there can be: of padding, bytes between two sections. Laws have the numbers 1 to 9, all others count from 0. */
+/* How many there can be: of padding, bytes between two sections. There are 15 kinds of nodes, and a table of kinds has as
+ * many bytes. Laws have the numbers 1 to 9, all others count from 0. */
 #define HOIDRUL_MOST_STATES 16
 #define HOIDRUL_MOST_NODES 64
 #define HOIDRUL_MOST_ACTIONS 8
 #define HOIDRUL_MOST_PROPOSITIONS 8
 #define HOIDRUL_MOST_VARIABLES 16
+#define HOIDRUL_KINDS 15
 #define HOIDRUL_MOST_LAWS 9
 #define HOIDRUL_MOST_PADDING 3
 
@@ -95,6 +99,7 @@ extern "C" {
     ROW(HOIDRUL_REASON_TOO_MANY_NODES, 12, "the rewritten rule would have more than 64 nodes") \
     ROW(HOIDRUL_REASON_ROOM, 13, "the output area is too small for the result") \
     ROW(HOIDRUL_REASON_FORM, 14, "the rule is not of the form that the entry takes") \
+    ROW(HOIDRUL_REASON_TABLE, 15, "the table of kinds does not hold each of 0 to 14 once") \
     /* end of the table */
 
 #define HOIDRUL_ROW(name, number, words) name = number,
@@ -113,6 +118,14 @@ uint64_t hoidrul_open(const uint8_t *file, size_t len, size_t section);
  * set of the states that hold. `work` points to `words` 16-bit words of any values; hoidrul_words tells how many are
  * enough, and all are zero after an answer. Answer: set + rounds * 2^16. Refusals: 1 to 7, 8 if set >= 2^n, 9. */
 uint64_t hoidrul_judge(const uint8_t *file, size_t len, uint16_t set, uint16_t *work, size_t words);
+
+/* Judging by a table of kinds, for a case whose supplier numbers them differently: as hoidrul_judge, where the first
+ * byte of a node, i, stands for kind kinds[i]. So it is of every node, reached or not, and of no other byte; one
+ * above 14 stands for no kind, which is refusal 5. `kinds` must have HOIDRUL_KINDS bytes, each of 0 to 14 once.
+ * hoidrul_vet_kinds tells n and m; set, area and answer are those of hoidrul_judge. Refusals: 15 for any other table,
+ * before the file is looked at, then 1 to 7, 8 if set >= 2^n, 9. */
+uint64_t hoidrul_judge_kinds(const uint8_t *kinds, size_t count, const uint8_t *file, size_t len, uint16_t set,
+                             uint16_t *work, size_t words);
 
 /* The four below write to `out`, an area of `room` bytes. Answer: how many bytes were written, from the first on;
  * those behind stay as they were. Refusal 13 if the area is shorter than the result. */
@@ -172,7 +185,16 @@ static inline size_t hoidrul_nodes(uint64_t reply) { return (size_t)(hoidrul_ans
 static inline size_t hoidrul_offset(uint64_t reply) { return (size_t)(hoidrul_answer(reply) >> 32); }
 static inline size_t hoidrul_length(uint64_t reply) { return (size_t)(hoidrul_answer(reply) & 0xffffffff); }
 
-/* Of judging's answer: the set, the rounds, and whether a state is in the set. */
+/* Where the pairs of a file say that a section stands, as opening's answer. Only for a file that a call has accepted,
+ * whose pairs are right. */
+static inline uint64_t hoidrul_pair(const uint8_t *file, size_t section)
+{
+    const uint8_t *pair = file + 4 * section;
+    uint64_t offset = pair[0] + ((uint64_t)pair[1] << 8), length = pair[2] + ((uint64_t)pair[3] << 8);
+    return (offset << 32) + length;
+}
+
+/* Of judging's answer, by either function: the set, the rounds, and whether a state is in the set. */
 static inline uint16_t hoidrul_set(uint64_t reply) { return (uint16_t)(hoidrul_answer(reply) & 0xffff); }
 static inline uint64_t hoidrul_rounds(uint64_t reply) { return hoidrul_answer(reply) >> 16; }
 static inline int hoidrul_holds(uint64_t reply, size_t state)
@@ -195,6 +217,13 @@ static inline int hoidrul_starts_hold(const uint8_t *file, uint64_t opened, uint
     return 1;
 }
 
+/* The same of the reply of hoidrul_judge_kinds on the set of all states, for a file with the kind numbers of its
+ * supplier, which opening takes for ours. If the call was refused, it is not so. */
+static inline int hoidrul_starts_hold_kinds(const uint8_t *file, uint64_t judged)
+{
+    return !hoidrul_refused(judged) && hoidrul_starts_hold(file, hoidrul_pair(file, HOIDRUL_STARTS), judged);
+}
+
 /* Of the reply of hoidrul_regular and the set that it wrote: whether a state holds, and whether every start state of the
  * file does, which is so if there is none. If the call was refused, neither is so. */
 static inline int hoidrul_regular_holds(uint64_t reply, const uint8_t *out, size_t state)
@@ -205,10 +234,9 @@ static inline int hoidrul_regular_starts_hold(const uint8_t *file, uint64_t repl
 {
     if (!hoidrul_answer(reply))
         return 0;
-    /* The pairs of a file that is answered are right: the last tells where the start states stand. */
-    size_t offset = file[12] + ((size_t)file[13] << 8), length = file[14] + ((size_t)file[15] << 8);
-    for (size_t i = 0; i < length; i++)
-        if (!hoidrul_regular_holds(reply, out, file[offset + i]))
+    uint64_t starts = hoidrul_pair(file, HOIDRUL_STARTS);
+    for (size_t i = 0; i < hoidrul_length(starts); i++)
+        if (!hoidrul_regular_holds(reply, out, file[hoidrul_offset(starts) + i]))
             return 0;
     return 1;
 }
@@ -223,6 +251,17 @@ static inline size_t hoidrul_words(size_t n, size_t m)
 {
     size_t nodes = m < HOIDRUL_MOST_NODES ? m : HOIDRUL_MOST_NODES;
     return (2 * nodes) << (n < HOIDRUL_MOST_STATES ? n : HOIDRUL_MOST_STATES);
+}
+
+/* Vetting by a table of kinds. Answer: n + m * 2^16, as of hoidrul_vet. Refusals: 15, 1 to 7. */
+static inline uint64_t hoidrul_vet_kinds(const uint8_t *kinds, size_t count, const uint8_t *file, size_t len)
+{
+    /* The empty set is in every case, and no area is enough for any: a case is refused for that alone. */
+    uint64_t reply = hoidrul_judge_kinds(kinds, count, file, len, 0, NULL, 0);
+    if (hoidrul_number(reply) != HOIDRUL_REASON_WORK)
+        return reply;
+    uint64_t nodes = hoidrul_length(hoidrul_pair(file, HOIDRUL_RULE)) / 3;
+    return hoidrul_length(hoidrul_pair(file, HOIDRUL_LABELS)) + (nodes << 16);
 }
 
 #ifdef __cplusplus

@@ -4,6 +4,8 @@
 //!   plain checker; proved classes against those of the plain checker.
 //! - `bench groups FILE`: the proved library alone; what a modality over a group costs beside one
 //!   over a single action.
+//! - `bench kinds FILE`: judging through a supplier's table of kinds beside judging without, and
+//!   against the same scheme in unchecked Rust.
 //! - `bench growth FILE [SECONDS]`: the proved library alone; how times grow with states, nodes and
 //!   nesting, and the worst cases. A case is left out if it is likely to take more than so many
 //!   seconds, 60 if none are given.
@@ -18,6 +20,7 @@ mod clock;
 mod groups;
 mod growth;
 mod judge;
+mod kinds;
 mod nesting;
 mod plan;
 mod ratios;
@@ -46,6 +49,7 @@ fn main() -> ExitCode {
     let written = match what {
         "ratios" => ratios::write(file),
         "groups" => groups::write(file),
+        "kinds" => kinds::write(file),
         "growth" => growth::write(file, longest),
         "regular-ratios" => regular::ratios::write(file),
         "regular-growth" => regular::growth::write(file, longest),
@@ -62,7 +66,7 @@ fn main() -> ExitCode {
 
 fn usage() -> ExitCode {
     eprintln!(
-        "bench ratios|groups|regular-ratios FILE, or bench growth|regular-growth FILE [SECONDS]"
+        "bench ratios|groups|kinds|regular-ratios FILE, or bench growth|regular-growth FILE [SECONDS]"
     );
     ExitCode::from(2)
 }

@@ -32,6 +32,17 @@ pub fn runs<A, const N: usize>(mut tasks: [&mut dyn FnMut() -> A; N]) -> Vec<[f6
     (0..RUNS).map(|i| run(i % DEPTHS)).collect()
 }
 
+pub fn sorted(values: impl Iterator<Item = f64>) -> Vec<f64> {
+    let mut values: Vec<f64> = values.collect();
+    values.sort_by(f64::total_cmp);
+    values
+}
+
+/// The value that so many percent of the others are below.
+pub fn part(sorted: &[f64], percent: usize) -> f64 {
+    sorted[(sorted.len() - 1) * percent / 100]
+}
+
 fn time<A>(task: &mut dyn FnMut() -> A, repeats: usize) -> f64 {
     let start = now();
     for _ in 0..repeats {

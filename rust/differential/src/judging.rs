@@ -84,7 +84,10 @@ pub fn compare_with_all_functions(case: &Case) -> u64 {
 pub fn proved(file: &[u8], set: u16, words: usize) -> Judged {
     let judge = |file: &[u8], work: &mut [u16]| hoidrul::judge(file, set, work);
     let reply = lending(file, words, set, judge);
-    reply.map(|verdict| in_states(file, verdict))
+    reply.map(|verdict| {
+        let (states, _) = plain::vet(file, 0).expect("what is answered is a case");
+        in_states(states, verdict)
+    })
 }
 
 /// For each state of a case whether it holds, by the proved library alone.
@@ -96,7 +99,7 @@ pub fn verdict(file: &[u8]) -> Vec<bool> {
 
 /// Calls the library with an area that held garbage, and checks every word of it: zero after an
 /// answer, unchanged after a refusal.
-fn lending<T: std::fmt::Debug>(
+pub(crate) fn lending<T: std::fmt::Debug>(
     file: &[u8],
     words: usize,
     set: u16,
@@ -124,9 +127,8 @@ fn lending<T: std::fmt::Debug>(
     in_plain(reply)
 }
 
-/// The verdict with its set state by state; no state beyond the case may be in it.
-fn in_states(file: &[u8], verdict: hoidrul::Verdict) -> Verdict {
-    let (states, _) = plain::vet(file, 0).expect("what is answered is a case");
+/// The verdict with its set state by state; no state beyond those of the case may be in it.
+pub(crate) fn in_states(states: usize, verdict: hoidrul::Verdict) -> Verdict {
     let beyond = verdict.states.iter().any(|state| state >= states);
     assert!(!beyond, "{verdict:?} of {states} states");
     Verdict {

@@ -1,5 +1,6 @@
 //! The arguments that come with a file: mostly right ones, and those at and past their limits.
 use differential::edits::LONGEST;
+use differential::kinds::{over_the_head, supplied, table, DAMAGES, OURS};
 use differential::measure::nesting;
 use differential::padding::padding_of;
 use differential::regular::SET_BYTES;
@@ -36,6 +37,25 @@ pub fn words(rng: &mut Rng, case: &Case) -> usize {
         1 => rng.below(needed),
         2 => needed + rng.below(100),
         _ => needed,
+    }
+}
+
+/// A table of kinds, and the file by it: mostly the one as the table's supplier writes it; at times as
+/// it is, or another whose kinds must not be exchanged, or no table.
+pub fn kinds(rng: &mut Rng, file: &[u8]) -> (Vec<u8>, Vec<u8>) {
+    let drawn = table(rng);
+    match rng.below(16) {
+        0..=1 => (OURS.to_vec(), file.to_vec()),
+        2..=3 => (drawn.to_vec(), file.to_vec()),
+        4 => {
+            let (table, file, _) = over_the_head(rng);
+            (table.to_vec(), file)
+        }
+        5..=6 => {
+            let damaged = (rng.pick(&DAMAGES).1)(rng, drawn);
+            (damaged, supplied(&drawn, file))
+        }
+        _ => (drawn.to_vec(), supplied(&drawn, file)),
     }
 }
 

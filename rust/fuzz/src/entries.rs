@@ -3,7 +3,7 @@ use crate::arguments;
 use crate::replies::{Entry, Replies};
 use differential::rng::Rng;
 use differential::strange::section;
-use differential::{edits, judging, regular, tally};
+use differential::{edits, judging, kinds, regular, tally};
 use plain::{Case, Edit, Limits};
 
 pub fn every(rng: &mut Rng, file: &[u8], replies: &mut Replies) {
@@ -22,6 +22,7 @@ pub fn every(rng: &mut Rng, file: &[u8], replies: &mut Replies) {
     let rewrite = fitting(rng, file, |rng| arguments::rewrite(rng, &case));
     edit(rng, file, rewrite, replies);
     judge_regular(rng, file, replies);
+    judge_kinds(rng, file, replies);
 }
 
 fn judge(rng: &mut Rng, file: &[u8], case: &Case, replies: &mut Replies) {
@@ -39,6 +40,17 @@ fn judge_regular(rng: &mut Rng, file: &[u8], replies: &mut Replies) {
     replies.count(Entry::Regular, &reply);
     // The binding's own, which reads two sections too.
     let _ = regular::compare_verdict(file, bytes);
+}
+
+fn judge_kinds(rng: &mut Rng, file: &[u8], replies: &mut Replies) {
+    let (kinds, file) = arguments::kinds(rng, file);
+    let case = plain::parse_kinds(&kinds, &file).unwrap_or_else(|_| small());
+    let set = arguments::set(rng, case.labels.len());
+    let words = arguments::words(rng, &case);
+    let reply = kinds::compare(&kinds, &file, set, words);
+    replies.count(Entry::JudgeKinds, &reply);
+    // The binding's own, made of this entry.
+    let _ = kinds::compare_helpers(&kinds, &file, words);
 }
 
 fn edit(rng: &mut Rng, file: &[u8], edit: Edit, replies: &mut Replies) {

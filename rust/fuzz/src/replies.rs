@@ -12,10 +12,11 @@ pub enum Entry {
     Merge,
     Rewrite,
     Regular,
+    JudgeKinds,
 }
 
 impl Entry {
-    pub const ALL: [Entry; 7] = [
+    pub const ALL: [Entry; 8] = [
         Entry::Vet,
         Entry::Open,
         Entry::Judge,
@@ -23,6 +24,7 @@ impl Entry {
         Entry::Merge,
         Entry::Rewrite,
         Entry::Regular,
+        Entry::JudgeKinds,
     ];
 
     /// The refusals that the entry gives (docs/SPECIFICATION.md, 7.4).
@@ -34,6 +36,7 @@ impl Entry {
             Entry::Merge => &[8, 10, 13],
             Entry::Rewrite => &[11, 12, 13],
             Entry::Regular => &[9, 13, 14],
+            Entry::JudgeKinds => &[8, 9, 15],
         };
         (1..=7).chain(own.iter().copied()).collect()
     }
@@ -64,12 +67,12 @@ impl Replies {
 
 impl fmt::Display for Replies {
     fn fmt(&self, f: &mut fmt::Formatter<'_>) -> fmt::Result {
-        write!(f, "{:<8} {:>8} {:>8}", "entry", "calls", "answers")?;
+        write!(f, "{:<10} {:>8} {:>8}", "entry", "calls", "answers")?;
         (1..=LAST_ROW).try_for_each(|number| write!(f, " {number:>7}"))?;
         for entry in Entry::ALL {
             let counts = &self.0[entry as usize];
             let name = format!("{entry:?}").to_lowercase();
-            write!(f, "\n{name:<8} {:>8}", counts.iter().sum::<usize>())?;
+            write!(f, "\n{name:<10} {:>8}", counts.iter().sum::<usize>())?;
             write!(f, " {:>8}", counts[0])?;
             counts[1..]
                 .iter()

@@ -4,6 +4,15 @@ extern "C" {
     fn hoidrul_vet(file: *const u8, len: usize, section: usize) -> u64;
     fn hoidrul_open(file: *const u8, len: usize, section: usize) -> u64;
     fn hoidrul_judge(file: *const u8, len: usize, set: u16, work: *mut u16, words: usize) -> u64;
+    fn hoidrul_judge_kinds(
+        kinds: *const u8,
+        count: usize,
+        file: *const u8,
+        len: usize,
+        set: u16,
+        work: *mut u16,
+        words: usize,
+    ) -> u64;
     fn hoidrul_classes(file: *const u8, len: usize, out: *mut u8, room: usize) -> u64;
     fn hoidrul_merge(
         file: *const u8,
@@ -47,6 +56,13 @@ pub fn judge(file: &[u8], set: u16, work: &mut [u16]) -> u64 {
     // SAFETY: as for `vet`. It writes only the `words` words of the work area, which is borrowed
     // mutably until it returns, so it overlaps the file nowhere; any word is a valid `u16`.
     unsafe { hoidrul_judge(file.as_ptr(), file.len(), set, work, words) }
+}
+
+pub fn judge_kinds(kinds: &[u8], file: &[u8], set: u16, work: &mut [u16]) -> u64 {
+    let (table, count) = (kinds.as_ptr(), kinds.len());
+    let (words, work) = (work.len(), work.as_mut_ptr());
+    // SAFETY: as for `judge`; of the table it only reads the `count` bytes, as of the file.
+    unsafe { hoidrul_judge_kinds(table, count, file.as_ptr(), file.len(), set, work, words) }
 }
 
 pub fn classes(file: &[u8], out: &mut [u8]) -> u64 {

@@ -1,6 +1,6 @@
 //! Judging: the root's function at a set of states, and whether the start states hold.
 use crate::refusal::answer;
-use crate::{ffi, open, vet, Refusal, StateSet, LABELS, STARTS};
+use crate::{ffi, open, vet, Counts, Refusal, StateSet, LABELS, STARTS};
 
 /// What judging answers.
 #[must_use]
@@ -60,7 +60,12 @@ impl Verdict {
 /// [`Beyond`]: crate::Reason::Beyond
 /// [`Work`]: crate::Reason::Work
 pub fn judge(file: &[u8], set: u16, work: &mut [u16]) -> Result<Verdict, Refusal> {
-    let reply = answer(ffi::judge(file, set, work))?;
+    verdict(ffi::judge(file, set, work))
+}
+
+/// Takes a judging entry's reply apart.
+pub(crate) fn verdict(reply: u64) -> Result<Verdict, Refusal> {
+    let reply = answer(reply)?;
     Ok(Verdict {
         states: (reply as u16).into(),
         rounds: reply >> 16,
@@ -126,6 +131,5 @@ pub fn starts_hold(file: &[u8], work: &mut [u16]) -> Result<bool, Refusal> {
 /// # Ok::<(), hoidrul::Refusal>(())
 /// ```
 pub fn work_area(file: &[u8]) -> Result<usize, Refusal> {
-    let counts = vet(file, LABELS)?;
-    Ok(2 * counts.nodes * (1 << counts.states))
+    vet(file, LABELS).map(Counts::words)
 }

@@ -11,6 +11,7 @@
 //! | [`vet`] | how many states and nodes the case has |
 //! | [`open`] | a section without padding, as that part of the file |
 //! | [`judge`] | which states hold, and after how many rounds |
+//! | [`judge_kinds`] | the same by a table of kinds, of a case with its supplier's numbers of them |
 //! | [`classes`] | which states are alike |
 //! | [`merge`] | the case with two alike states made one |
 //! | [`rewrite`] | the case with its rule rewritten by one of nine laws |
@@ -22,9 +23,9 @@
 //! Each takes any bytes and any numbers, always ends, and answers or returns a [`Refusal`]. The
 //! caller lends every area that is written, and a refusal leaves it unchanged. Entries keep no
 //! state, so threads may call at once; a thread needs [`STACK`] bytes of stack. docs/SPECIFICATION.md
-//! says what they answer in full. Some helpers are made of them: [`work_area`] and
-//! [`regular_work_area`] tell how much judging needs, [`starts_hold`] judges and says whether every
-//! start state holds, and [`regular_into`] writes the set where it is told to.
+//! says what they answer in full. Some helpers are made of them: [`work_area`], [`vet_kinds`] and
+//! [`regular_work_area`] tell how much judging needs, [`starts_hold`] and [`starts_hold_kinds`] judge
+//! and say whether every start state holds, and [`regular_into`] writes the set where it is told to.
 //!
 //! ```
 //! // One state, no steps, the rule τ, no start states.
@@ -56,6 +57,7 @@ mod edits;
 #[allow(unsafe_code)]
 mod ffi;
 mod judging;
+mod kinds;
 mod limits;
 mod refusal;
 mod regular;
@@ -64,10 +66,11 @@ mod state_set;
 
 pub use edits::{classes, merge, rewrite};
 pub use judging::{judge, starts_hold, work_area, Verdict};
+pub use kinds::{judge_kinds, starts_hold_kinds, vet_kinds, KindTable};
 pub use limits::{
-    LONGEST, MOST_ACTIONS, MOST_LAWS, MOST_NODES, MOST_PADDING, MOST_PROPOSITIONS, MOST_STATES,
-    MOST_VARIABLES, REGULAR_LONGEST, REGULAR_MOST_STATES, REGULAR_NODE_BYTES, REGULAR_SET_BYTES,
-    STACK,
+    KINDS, LONGEST, MOST_ACTIONS, MOST_LAWS, MOST_NODES, MOST_PADDING, MOST_PROPOSITIONS,
+    MOST_STATES, MOST_VARIABLES, REGULAR_LONGEST, REGULAR_MOST_STATES, REGULAR_NODE_BYTES,
+    REGULAR_SET_BYTES, STACK,
 };
 pub use refusal::{Reason, Refusal, UnknownReason};
 pub use regular::{regular, regular_into, regular_work_area, RegularVerdict};

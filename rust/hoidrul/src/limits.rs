@@ -29,6 +29,8 @@ pub const MOST_ACTIONS: usize = 8;
 pub const MOST_PROPOSITIONS: usize = 8;
 /// How many variables there are.
 pub const MOST_VARIABLES: usize = 16;
+/// How many kinds of nodes there are, which is how many bytes a table of kinds has.
+pub const KINDS: usize = 15;
 /// How many laws there are. Their numbers count from 1.
 pub const MOST_LAWS: usize = 9;
 /// The most bytes of padding between two sections.

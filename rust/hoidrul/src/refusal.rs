@@ -82,6 +82,7 @@ reasons! {
     12 TooManyNodes "the rewritten rule would have more than 64 nodes"
     13 Room "the output area is too small for the result"
     14 Form "the rule is not of the form that the entry takes"
+    15 Table "the table of kinds does not hold each of 0 to 14 once"
 }
 
 /// The reason's words.

@@ -1,5 +1,6 @@
 //! Judging regular rules, on tables that may be larger than those of the other entries.
 use crate::refusal::answer;
+use crate::sections::accepted_section;
 use crate::{ffi, Reason, Refusal, StateSet};
 use crate::{LABELS, REGULAR_NODE_BYTES, REGULAR_SET_BYTES, RULE, STARTS};
 
@@ -71,10 +72,10 @@ pub fn regular(file: &[u8], work: &mut [u8]) -> Result<RegularVerdict, Refusal> 
     let mut bytes = [0; REGULAR_SET_BYTES];
     regular_into(file, work, &mut bytes)?;
     let states = StateSet::from(bytes);
-    let mut starts = section(file, STARTS).iter();
+    let mut starts = accepted_section(file, STARTS).iter();
     Ok(RegularVerdict {
         states,
-        count: section(file, LABELS).len(),
+        count: accepted_section(file, LABELS).len(),
         starts_hold: starts.all(|&state| states.contains(state.into())),
     })
 }
@@ -131,13 +132,6 @@ pub fn regular_work_area(file: &[u8]) -> Result<usize, Refusal> {
     // No area is enough for any rule, so that a case is refused for that, if for nothing else.
     match regular_into(file, &mut [], &mut []) {
         Err(refusal) if refusal.reason != Reason::Work => Err(refusal),
-        _ => Ok(REGULAR_NODE_BYTES * (section(file, RULE).len() / 3)),
+        _ => Ok(REGULAR_NODE_BYTES * (accepted_section(file, RULE).len() / 3)),
     }
-}
-
-/// A section of a file that [`regular`] has accepted, whose pairs are right for that.
-fn section(file: &[u8], section: usize) -> &[u8] {
-    let number = |at: usize| usize::from(u16::from_le_bytes([file[at], file[at + 1]]));
-    let offset = number(4 * section);
-    &file[offset..offset + number(4 * section + 2)]
 }

@@ -1,6 +1,6 @@
 //! Vetting a case and opening its sections.
 use crate::refusal::answer;
-use crate::{ffi, Refusal, MOST_STATES};
+use crate::{ffi, Refusal, MOST_NODES, MOST_STATES};
 
 /// The section of labels: a byte a state, bit i for proposition i.
 pub const LABELS: usize = 0;
@@ -51,6 +51,12 @@ impl Counts {
             .map(|state| 1 << state)
             .sum()
     }
+
+    /// How many words of work area are enough to judge the case: 2 × m × 2^n.
+    #[must_use]
+    pub fn words(self) -> usize {
+        (2 * self.nodes.min(MOST_NODES)) << self.states.min(MOST_STATES)
+    }
 }
 
 /// Vets the whole case, then the section number.
@@ -66,7 +72,7 @@ impl Counts {
 /// let file = [16, 0, 1, 0, 17, 0, 0, 0, 17, 0, 4, 0, 21, 0, 0, 0, 0, 5, 0, 0, 0];
 /// let counts = hoidrul::vet(&file, hoidrul::RULE)?;
 /// assert_eq!((counts.states, counts.nodes), (1, 1));
-/// assert_eq!(counts.all_states(), 0b1);
+/// assert_eq!((counts.all_states(), counts.words()), (0b1, 4));
 ///
 /// let refusal = hoidrul::vet(&file, 4).unwrap_err();
 /// assert_eq!(refusal.reason, hoidrul::Reason::Beyond);
@@ -128,4 +134,11 @@ pub fn open(file: &[u8], section: usize) -> Result<&[u8], Refusal> {
     }
     let (offset, length) = ((part >> 32) as usize, part as u32 as usize);
     Ok(&file[offset..offset + length])
+}
+
+/// A section of a file that an entry has accepted, which has found its pairs right.
+pub(crate) fn accepted_section(file: &[u8], section: usize) -> &[u8] {
+    let number = |at: usize| usize::from(u16::from_le_bytes([file[at], file[at + 1]]));
+    let offset = number(4 * section);
+    &file[offset..offset + number(4 * section + 2)]
 }

@@ -3,10 +3,11 @@ mod common;
 
 use common::c::compile;
 use common::{case, file, no_case, printed, root, run, scratch, told};
-use hoidrul::{Reason, Refusal};
+use hoidrul::{KindTable, Reason, Refusal, Verdict};
 use hoidrul::{LABELS, LONGEST, MOST_LAWS, MOST_STATES, REGULAR_LONGEST, RULE, STARTS, STEPS};
 use std::fmt::Write;
 use std::fs;
+use std::path::Path;
 use std::process::Command;
 
 const SECTIONS: [(usize, &str); 4] = [
@@ -41,8 +42,22 @@ fn verdict_print(file: &[u8]) -> Result<String, Refusal> {
     let counts = hoidrul::vet(file, LABELS)?;
     let mut work = vec![0; hoidrul::work_area(file)?];
     let verdict = hoidrul::judge(file, counts.all_states(), &mut work)?;
+    let hold = hoidrul::starts_hold(file, &mut work)?;
+    Ok(verdict_lines(counts.states, verdict, hold))
+}
+
+/// What the sample prints of a case with a supplier's kinds.
+fn kinds_print(kinds: &[u8], file: &[u8]) -> Result<String, Refusal> {
+    let counts = hoidrul::vet_kinds(kinds, file)?;
+    let mut work = vec![0; counts.words()];
+    let verdict = hoidrul::judge_kinds(kinds, file, counts.all_states(), &mut work)?;
+    let hold = hoidrul::starts_hold_kinds(kinds, file, &mut work)?;
+    Ok(verdict_lines(counts.states, verdict, hold))
+}
+
+fn verdict_lines(states: usize, verdict: Verdict, starts_hold: bool) -> String {
     let mut print = String::new();
-    for state in 0..counts.states {
+    for state in 0..states {
         let holds = if verdict.holds(state) {
             "holds"
         } else {
@@ -51,10 +66,9 @@ fn verdict_print(file: &[u8]) -> Result<String, Refusal> {
         writeln!(print, "{state} {holds}").unwrap();
     }
     writeln!(print, "rounds: {}", verdict.rounds).unwrap();
-    let hold = hoidrul::starts_hold(file, &mut work)?;
-    let hold = if hold { "yes" } else { "no" };
+    let hold = if starts_hold { "yes" } else { "no" };
     writeln!(print, "every start state holds: {hold}").unwrap();
-    Ok(print)
+    print
 }
 
 fn regular_print(file: &[u8]) -> Result<String, Refusal> {
@@ -158,6 +172,36 @@ fn sample_judges_large_tables() {
     assert_eq!(told(run(Command::new(&sample).arg(&path)), 1), line);
 }
 
+/// The supplier's motor, of which only state 0 holds, by its table; then by the table the wrong way
+/// round, by one that is too long, and a case of ours by our own.
+#[test]
+fn sample_judges_through_a_table_of_kinds() {
+    let sample = compile(&root().join("examples/every_entry.c"), "every_entry_kinds");
+    let motor = case("lost_steps_made_up.supplier");
+    let table = fs::read(case("lost_steps_made_up.kinds")).unwrap();
+    let inverse = KindTable::new(&table).unwrap().inverse();
+    let long = [&table[..], &[15]].concat();
+    let with = |kinds: &[u8], path: &Path| {
+        let written = scratch("of_the_sample.kinds");
+        fs::write(&written, kinds).unwrap();
+        run(Command::new(&sample).arg(path).arg(written))
+    };
+    let print = printed(with(&table, &motor));
+    let file = fs::read(&motor).unwrap();
+    assert_eq!(kinds_print(&table, &file), Ok(print.clone()));
+    assert!(print.starts_with("0 holds\n1 does not hold\n"), "{print}");
+    assert_eq!(print.matches(" holds\n").count(), 1, "{print}");
+    for (kinds, number) in [(inverse.as_ref(), 5), (&long, 15)] {
+        let refusal = kinds_print(kinds, &file).unwrap_err();
+        assert_eq!(refusal.number(), number);
+        let line = format!("{}: {refusal}\n", motor.display());
+        assert_eq!(told(with(kinds, &motor), 1), line);
+    }
+    let print = printed(with(KindTable::IDENTITY.as_bytes(), &case("f.case")));
+    let file = fs::read(case("f.case")).unwrap();
+    assert_eq!(Ok(print), verdict_print(&file));
+}
+
 #[test]
 fn sample_tells_refusals() {
     let sample = compile(
@@ -177,5 +221,5 @@ fn sample_tells_refusals() {
         assert_eq!(told(run(Command::new(&sample).arg(&path)), 1), line);
     }
     let usage = told(run(&mut Command::new(&sample)), 1);
-    assert_eq!(usage, "usage: every_entry CASE\n");
+    assert_eq!(usage, "usage: every_entry CASE [KINDS]\n");
 }

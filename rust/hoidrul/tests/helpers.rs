@@ -39,6 +39,7 @@ fn refused_files() -> [(Vec<u8>, u64); 7] {
 fn data() -> String {
     let mut data = String::from("#define CASE(name) name, sizeof name\n");
     data += "uint16_t work[80];\nuint8_t area[192], out[HOIDRUL_LONGEST];\n";
+    data += &bytes("kinds", hoidrul::KindTable::IDENTITY.as_bytes());
     data += &bytes("holding", &two(&[0]));
     data += &bytes("failing", &two(&[0, 1]));
     data += &bytes("starting_nowhere", &two(&[]));
@@ -50,42 +51,50 @@ fn data() -> String {
     data
 }
 
+/// Other calls that are refused, with the number. The place is 0.
+const OTHERS: [(&str, u64); 21] = [
+    ("vet(NULL, 0, 0)", 1),
+    ("vet(CASE(holding), 4)", 8),
+    ("judge(CASE(holding), 4, work, 80)", 8),
+    ("judge(CASE(holding), 3, work, 23)", 9),
+    ("judge(CASE(holding), 3, NULL, 0)", 9),
+    ("judge_kinds(CASE(kinds), CASE(holding), 4, work, 80)", 8),
+    ("judge_kinds(CASE(kinds), CASE(holding), 3, NULL, 0)", 9),
+    ("judge_kinds(NULL, 0, NULL, 0, 4, NULL, 0)", 15),
+    ("vet_kinds(kinds, 14, CASE(holding))", 15),
+    ("classes(CASE(holding), NULL, 0)", 13),
+    ("merge(CASE(holding), 0, 2, out, sizeof out)", 8),
+    ("merge(CASE(holding), 1, 1, out, sizeof out)", 10),
+    ("merge(CASE(holding), 0, 1, out, sizeof out)", 10),
+    ("merge(CASE(full), 0, 1, NULL, 0)", 13),
+    ("rewrite(CASE(holding), 10, 2, out, sizeof out)", 11),
+    ("rewrite(CASE(full), 4, 62, out, sizeof out)", 12),
+    ("rewrite(CASE(holding), 9, 2, NULL, 0)", 13),
+    ("regular(CASE(full), NULL, 0, NULL, 0)", 14),
+    ("regular(CASE(holding), area, 191, NULL, 0)", 9),
+    ("regular(CASE(holding), NULL, 0, out, 32)", 9),
+    ("regular(CASE(holding), area, 192, out, 31)", 13),
+];
+
 /// Calls that are refused, with number and place.
 fn refused_calls() -> Vec<(String, u64, u64)> {
     let mut calls = vec![];
     for (i, (_, place)) in (1..).zip(refused_files()) {
-        for (entry, arguments) in [
-            ("vet", "2"),
-            ("judge", "3, work, 80"),
-            ("classes", "out, sizeof out"),
-            ("merge", "0, 1, out, sizeof out"),
-            ("rewrite", "9, 0, out, sizeof out"),
-            ("regular", "area, sizeof area, out, sizeof out"),
+        for call in [
+            "vet(CASE(FILE), 2)",
+            "judge(CASE(FILE), 3, work, 80)",
+            "judge_kinds(CASE(kinds), CASE(FILE), 3, work, 80)",
+            "vet_kinds(CASE(kinds), CASE(FILE))",
+            "classes(CASE(FILE), out, sizeof out)",
+            "merge(CASE(FILE), 0, 1, out, sizeof out)",
+            "rewrite(CASE(FILE), 9, 0, out, sizeof out)",
+            "regular(CASE(FILE), area, sizeof area, out, sizeof out)",
         ] {
-            let call = format!("hoidrul_{entry}(CASE(refused_{i}), {arguments})");
-            calls.push((call, i, place));
+            let call = call.replace("FILE", &format!("refused_{i}"));
+            calls.push((format!("hoidrul_{call}"), i, place));
         }
     }
-    let others = [
-        ("vet(NULL, 0, 0)", 1),
-        ("vet(CASE(holding), 4)", 8),
-        ("judge(CASE(holding), 4, work, 80)", 8),
-        ("judge(CASE(holding), 3, work, 23)", 9),
-        ("judge(CASE(holding), 3, NULL, 0)", 9),
-        ("classes(CASE(holding), NULL, 0)", 13),
-        ("merge(CASE(holding), 0, 2, out, sizeof out)", 8),
-        ("merge(CASE(holding), 1, 1, out, sizeof out)", 10),
-        ("merge(CASE(holding), 0, 1, out, sizeof out)", 10),
-        ("merge(CASE(full), 0, 1, NULL, 0)", 13),
-        ("rewrite(CASE(holding), 10, 2, out, sizeof out)", 11),
-        ("rewrite(CASE(full), 4, 62, out, sizeof out)", 12),
-        ("rewrite(CASE(holding), 9, 2, NULL, 0)", 13),
-        ("regular(CASE(full), NULL, 0, NULL, 0)", 14),
-        ("regular(CASE(holding), area, 191, NULL, 0)", 9),
-        ("regular(CASE(holding), NULL, 0, out, 32)", 9),
-        ("regular(CASE(holding), area, 192, out, 31)", 13),
-    ];
-    calls.extend(others.map(|(call, number)| (format!("hoidrul_{call}"), number, 0)));
+    calls.extend(OTHERS.map(|(call, number)| (format!("hoidrul_{call}"), number, 0)));
     calls
 }
 
@@ -131,6 +140,7 @@ fn refusal(reply: &str, reason: u64, place: u64) -> Vec<Line> {
         starts_hold("holding", reply, JUDGED, 0),
         starts_hold("holding", "0", reply, 0),
         starts_hold("holding", reply, reply, 0),
+        number(format!("hoidrul_starts_hold_kinds(holding, {reply})"), 0),
         regular_starts_hold("holding", reply, 0),
         regular_starts_hold("starting_nowhere", reply, 0),
     ];

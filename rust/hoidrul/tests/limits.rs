@@ -3,9 +3,9 @@ mod common;
 
 use common::{file, Triple};
 use hoidrul::{
-    Reason, Refusal, LABELS, LONGEST, MOST_ACTIONS, MOST_LAWS, MOST_NODES, MOST_PADDING,
-    MOST_PROPOSITIONS, MOST_STATES, MOST_VARIABLES, REGULAR_LONGEST, REGULAR_MOST_STATES,
-    REGULAR_NODE_BYTES, REGULAR_SET_BYTES,
+    KindTable, Reason, Refusal, KINDS, LABELS, LONGEST, MOST_ACTIONS, MOST_LAWS, MOST_NODES,
+    MOST_PADDING, MOST_PROPOSITIONS, MOST_STATES, MOST_VARIABLES, REGULAR_LONGEST,
+    REGULAR_MOST_STATES, REGULAR_NODE_BYTES, REGULAR_SET_BYTES,
 };
 
 const TAU: Triple = [5, 0, 0];
@@ -41,9 +41,29 @@ fn of_a_case() {
     ends_at(MOST_VARIABLES, Reason::Node, |count| {
         one(&[], &[TAU, [11, count - 1, 0]])
     });
+    ends_at(KINDS, Reason::Node, |count| {
+        one(&[], &[TAU, [count - 1, 0, 0]])
+    });
     ends_at(MOST_PADDING, Reason::Pairs, |gap| {
         file(&[0], &[], &[TAU], &[0], gap.into())
     });
+}
+
+/// A table of so many bytes, and one of one more or less; its file has kinds below that number only.
+#[test]
+fn of_tables_of_kinds() {
+    let bytes: Vec<u8> = (0..=KINDS as u8).collect();
+    assert_eq!(KindTable::new(&bytes[..KINDS]), Ok(KindTable::IDENTITY));
+    for length in [0, KINDS - 1, KINDS + 1] {
+        let refusal = KindTable::new(&bytes[..length]).unwrap_err();
+        assert_eq!((refusal.reason, refusal.place), (Reason::Table, 0));
+    }
+    let turned: Vec<u8> = (0..KINDS as u8).rev().collect();
+    let vet = |byte| hoidrul::vet_kinds(&turned, &one(&[], &[[9, 0, 0], [byte, 0, 0]]));
+    let counts = vet(KINDS as u8 - 1).unwrap();
+    assert_eq!((counts.states, counts.nodes, counts.words()), (1, 2, 8));
+    let refusal = vet(KINDS as u8).unwrap_err();
+    assert_eq!((refusal.reason, refusal.place), (Reason::Node, 1));
 }
 
 /// A head of 16 bytes, all labels, all steps, all nodes and the root, all start states, three gaps.

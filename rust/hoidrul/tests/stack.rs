@@ -2,7 +2,8 @@
 mod common;
 
 use common::Triple;
-use hoidrul::{Refusal, LABELS, LONGEST, MOST_PADDING, REGULAR_LONGEST, RULE, STACK};
+use hoidrul::{KindTable, Refusal, Verdict};
+use hoidrul::{LABELS, LONGEST, MOST_PADDING, REGULAR_LONGEST, RULE, STACK};
 use std::sync::Barrier;
 use std::thread::{self, Builder};
 
@@ -84,23 +85,25 @@ fn worst_cases() -> Vec<Vec<u8>> {
     ]
 }
 
+type Judge<'a> = &'a dyn Fn(u16, &mut [u16]) -> Result<Verdict, Refusal>;
+
 /// What every entry replies, lent areas from the heap.
 fn replies(file: &[u8]) -> Vec<Result<Vec<u8>, Refusal>> {
     let written = |call: &dyn Fn(&mut [u8]) -> Result<usize, Refusal>| {
         let mut out = vec![0; LONGEST];
         call(&mut out).map(|length| out[..length].to_vec())
     };
-    let judged = || {
-        let all = hoidrul::vet(file, LABELS)?.all_states();
-        let mut work = vec![0; hoidrul::work_area(file)?];
-        let verdict = hoidrul::judge(file, all, &mut work)?;
+    let judged = |judge: Judge| {
+        let counts = hoidrul::vet(file, LABELS)?;
+        let verdict = judge(counts.all_states(), &mut vec![0; counts.words()])?;
         let states = verdict.states.to_u64().expect("16 states at most");
         Ok([states, verdict.rounds].map(u64::to_le_bytes).concat())
     };
     vec![
         hoidrul::vet(file, RULE).map(|counts| vec![counts.states as u8, counts.nodes as u8]),
         hoidrul::open(file, RULE).map(<[u8]>::to_vec),
-        judged(),
+        judged(&|all, work| hoidrul::judge(file, all, work)),
+        judged(&|all, work| hoidrul::judge_kinds(KindTable::IDENTITY, file, all, work)),
         written(&|out| hoidrul::classes(file, out)),
         written(&|out| hoidrul::merge(file, 0, 1, out)),
         written(&|out| hoidrul::rewrite(file, 9, 63, out)),
@@ -138,7 +141,7 @@ fn every_entry_fits() {
 fn answers_and_refusals() {
     let answered = |file: &Vec<u8>| replies(file).iter().filter(|reply| reply.is_ok()).count();
     let counts: Vec<usize> = worst_cases().iter().map(answered).collect();
-    assert_eq!(counts, [6, 5, 6, 7, 7, 6, 0, 0, 1, 1, 1, 1]);
+    assert_eq!(counts, [7, 6, 7, 8, 8, 7, 0, 0, 1, 1, 1, 1]);
     let numbers = |file: &Vec<u8>| hoidrul::vet(file, RULE).map_err(Refusal::number).err();
     let numbers: Vec<_> = worst_cases().iter().map(numbers).collect();
     assert_eq!(numbers[..6], [None; 6]);

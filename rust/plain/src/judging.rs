@@ -1,4 +1,5 @@
 //! Judging: rows 1 to 9, then the root's function at the set; and the last word of the program.
+use crate::case::Case;
 use crate::meaning::meaning;
 use crate::refusal::Refusal;
 use crate::vetting::parse;
@@ -13,11 +14,15 @@ pub struct Verdict {
 
 /// The verdict on a set, bit i for state i, with a work area of this many words.
 pub fn judge(file: &[u8], set: u16, words: usize) -> Result<Verdict, Refusal> {
-    let case = parse(file)?;
+    judge_case(&parse(file)?, set, words)
+}
+
+/// The same of a case that rows 1 to 7 do not meet.
+pub(crate) fn judge_case(case: &Case, set: u16, words: usize) -> Result<Verdict, Refusal> {
     let (set, sets) = (usize::from(set), 1 << case.labels.len());
     Refusal::unless(set < sets, 8, 0)?;
     Refusal::unless(words >= 2 * case.nodes.len() * sets, 9, 0)?;
-    let root = meaning(&case);
+    let root = meaning(case);
     Ok(Verdict {
         states: root.function[set].clone(),
         rounds: root.rounds,
@@ -27,9 +32,13 @@ pub fn judge(file: &[u8], set: u16, words: usize) -> Result<Verdict, Refusal> {
 /// The program's last word, with a work area of this many words: rows 1 to 7 and 9, then whether
 /// every start state is in the root's function at the set of all states.
 pub fn starts_hold(file: &[u8], words: usize) -> Result<bool, Refusal> {
-    let case = parse(file)?;
+    starts_of_case_hold(&parse(file)?, words)
+}
+
+/// The same of a case that rows 1 to 7 do not meet.
+pub(crate) fn starts_of_case_hold(case: &Case, words: usize) -> Result<bool, Refusal> {
     let all = (0..case.labels.len()).map(|state| 1 << state).sum();
-    let verdict = judge(file, all, words)?;
+    let verdict = judge_case(case, all, words)?;
     let holds = |&state: &u8| verdict.states[usize::from(state)];
     Ok(case.starts.iter().all(holds))
 }
@@ -37,7 +46,7 @@ pub fn starts_hold(file: &[u8], words: usize) -> Result<bool, Refusal> {
 #[cfg(test)]
 mod tests {
     use super::*;
-    use crate::case::{write, Case};
+    use crate::case::write;
 
     /// The rule p0 on three states, of which 0 and 2 have it. It takes 16 words.
     #[test]

@@ -1,5 +1,5 @@
 //! A checker of case files, written from document 01 and requests 2026-01 and 2026-03 to
-//! 2026-06 alone, which docs/SPECIFICATION.md restates.
+//! 2026-07 alone, which docs/SPECIFICATION.md restates.
 //!
 //! It is the yardstick for the proved library: meant to be seen right, not to be fast, and to
 //! work by other means than the proved code wherever there is a choice.
@@ -25,6 +25,7 @@ mod refusal;
 mod regular;
 mod rewriting;
 mod sets;
+mod supplier;
 mod vetting;
 
 pub use alike::{alike, alike_in_full, classes};
@@ -41,4 +42,5 @@ pub use reach::reached;
 pub use refusal::Refusal;
 pub use regular::{regular, regular_starts_hold, regular_states};
 pub use rewriting::rewrite;
+pub use supplier::{judge_kinds, parse_kinds, starts_hold_kinds};
 pub use vetting::{open, parse, parse_within, vet, Limits, MOST_NODES, MOST_PADDING, PAIRS_LENGTH};

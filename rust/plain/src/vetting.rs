@@ -54,10 +54,22 @@ pub fn parse(file: &[u8]) -> Result<Case, Refusal> {
 
 /// The same where these limits stand in rows 1 and 2.
 pub fn parse_within(file: &[u8], limits: Limits) -> Result<Case, Refusal> {
+    parse_reading(file, limits, |kind| kind)
+}
+
+/// The same where the first byte of a node stands for the kind that `kind` says.
+pub(crate) fn parse_reading(
+    file: &[u8],
+    limits: Limits,
+    kind: impl Fn(u8) -> u8,
+) -> Result<Case, Refusal> {
     let [labels, steps, rule, starts] = sections(file, limits)?;
     let labels = parse_labels(&file[labels], limits)?;
     let steps = parse_steps(&file[steps], labels.len())?;
-    let (nodes, root) = parse_rule(&file[rule])?;
+    let (mut nodes, root) = parse_rule(&file[rule])?;
+    for node in &mut nodes {
+        node.0 = kind(node.0);
+    }
     let starts = parse_starts(&file[starts], labels.len())?;
     check_nodes(&nodes)?;
     check_binders(&nodes)?;

@@ -3,7 +3,7 @@
 use super::cases::{no_binder, one_binder, two_alternating, two_of_one_kind, STATES, STEPS};
 use super::task::Task;
 use crate::table::Table;
-use crate::timing::{a_few, runs};
+use crate::timing::{a_few, part, runs, sorted};
 use differential::duplex;
 use std::hint::black_box;
 use std::io;
@@ -52,15 +52,4 @@ fn compared(table: &mut Table, task: &Task) -> io::Result<()> {
         medians.join("\t"),
         ratios.join("\t"),
     ))
-}
-
-fn sorted(values: impl Iterator<Item = f64>) -> Vec<f64> {
-    let mut values: Vec<f64> = values.collect();
-    values.sort_by(f64::total_cmp);
-    values
-}
-
-/// The value that so many percent of the others are below.
-fn part(sorted: &[f64], percent: usize) -> f64 {
-    sorted[(sorted.len() - 1) * percent / 100]
 }
