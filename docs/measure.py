@@ -1,10 +1,11 @@
 #!/usr/bin/env python3
 """Measures anew what docs/PERFORMANCE.md tells: builds the proved archive and the benchmark, runs it (some minutes), writes
-docs/ratios.tsv, docs/groups.tsv, docs/performance.tsv, docs/regular_ratios.tsv and docs/regular.tsv, fills the page's tables
-from them and draws the plots.
+docs/ratios.tsv, docs/groups.tsv, docs/performance.tsv, docs/regular_ratios.tsv, docs/regular.tsv and docs/kinds.tsv, fills
+the page's tables from them and draws the plots.
 
     python3 docs/measure.py            everything
     python3 docs/measure.py regular    the judge of regular rules alone
+    python3 docs/measure.py kinds      judging by a table of kinds alone
     python3 docs/measure.py tables     the page's tables and the plots alone, from the files that are there
 """
 import csv
@@ -112,6 +113,16 @@ def regular():
     fill("regular plain", markdown(["Case", "Steps", "Proved", "Plain", "Percent"], percent))
 
 
+def kinds():
+    """Judging by a table of kinds, beside judging without and against unchecked Rust."""
+    head = ["Case", "n", "m", "Bytes", "Judging", "By the table", "Unchecked", "/ judging", "nine of ten", "/ unchecked", "nine of ten"]
+    fill("kinds", markdown(head, (
+        [r["case"], r["n"], r["m"], r["bytes"], shown(r["judge"]), shown(r["kinds"]), shown(r["unchecked"])]
+        + [r["/ judge"], f"{r['judge low']} to {r['judge high']}", r["/ unchecked"], f"{r['unchecked low']} to {r['unchecked high']}"]
+        for r in read("kinds.tsv")
+    )))
+
+
 def processor():
     """The processor's name, as the system has it."""
     with open("/proc/cpuinfo", encoding="utf-8") as lines:
@@ -121,6 +132,7 @@ def processor():
 
 FIRST_JUDGE = [("ratios", "ratios.tsv"), ("groups", "groups.tsv"), ("growth", "performance.tsv")]
 REGULAR = [("regular-ratios", "regular_ratios.tsv"), ("regular-growth", "regular.tsv")]
+KINDS = [("kinds", "kinds.tsv")]
 
 
 def measure(blocks, tables):
@@ -140,9 +152,11 @@ def measure(blocks, tables):
 if __name__ == "__main__":
     match sys.argv[1:]:
         case []:
-            measure(["machine", "regular machine"], FIRST_JUDGE + REGULAR)
+            measure(["machine", "regular machine", "kinds machine"], FIRST_JUDGE + REGULAR + KINDS)
         case ["regular"]:
             measure(["regular machine"], REGULAR)
+        case ["kinds"]:
+            measure(["kinds machine"], KINDS)
         case ["tables"]:
             pass
         case _:
@@ -152,4 +166,5 @@ if __name__ == "__main__":
     worst()
     deepest()
     regular()
+    kinds()
     plot.main()
