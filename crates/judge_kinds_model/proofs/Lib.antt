@@ -3,3 +3,4 @@ pub mod KindTables
 pub mod Exchange
 pub mod SameLayout
 pub mod Judging
+pub mod Padding

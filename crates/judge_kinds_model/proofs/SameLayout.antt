@@ -82,13 +82,13 @@ module _ (t f : List ℕ) (e : pairsHold standard f ≡ true) where
   unfolding section
   section-as k h = λ z. listOf (sizes k h z) (λ i. byteAt g (offsets k h z + i))
 
-  section-before : (k : ℕ) → k < 2 → section g k ≡ section f k
+  pub section-before : (k : ℕ) → k < 2 → section g k ≡ section f k
   unfolding section
   section-before k h =
       section-as k (omega arith)
       ∙ listOf-ext (size f k) _ _ (λ i l. early (offset f k + i) (omega (arith, section-after standard f e k 2 h (omega arith))))
 
-  section-behind : section g 3 ≡ section f 3
+  pub section-behind : section g 3 ≡ section f 3
   unfolding section
   section-behind =
       section-as 3 (omega arith)
@@ -102,26 +102,30 @@ module _ (t f : List ℕ) (e : pairsHold standard f ≡ true) where
   unfolding section
   old-byte i h = getD-listOf (size f 2) _ 0 i h
 
-  kind : (j : ℕ) → j < m → byteAt (section g 2) (3 * j) ≡ standsFor t (byteAt (section f 2) (3 * j))
-  kind j h =
-      rule-byte (3 * j) (omega arith) ∙ byte-at (offset f 2 + 3 * j) ∙ exchanged-kind t f m (offset f 2 + 3 * j) (kind-byte f m j h)
-      ∙ ap (standsFor t) (sym (old-byte (3 * j) (omega arith)))
+  pub kind-at : (i j : ℕ) → j < m → i ≡ 3 * j → byteAt (section g 2) i ≡ standsFor t (byteAt (section f 2) i)
+  kind-at i j h q =
+      let at : offset f 2 + i ≡ offset f 2 + 3 * j = omega arith in
+      rule-byte i (omega arith) ∙ byte-at (offset f 2 + i) ∙ exchanged-kind t f m (offset f 2 + i) (ap (isKind f m) at ∙ kind-byte f m j h)
+      ∙ ap (standsFor t) (sym (old-byte i (omega arith)))
 
-  operand : (j r : ℕ) → j < m → 1 ≤ r → r ≤ 2 → byteAt (section g 2) (3 * j + r) ≡ byteAt (section f 2) (3 * j + r)
-  operand j r h k l =
-      rule-byte (3 * j + r) (omega arith) ∙ other (offset f 2 + (3 * j + r)) (λ i b q. omega arith) ∙ sym (old-byte (3 * j + r) (omega arith))
+  pub other-at : (i : ℕ) → i < size f 2 → ((j : ℕ) → j < m → i ≡ 3 * j → ⊥) → byteAt (section g 2) i ≡ byteAt (section f 2) i
+  other-at i h none = rule-byte i h ∙ other (offset f 2 + i) (λ j k q. none j k (omega arith)) ∙ sym (old-byte i h)
 
   nodes : triples g 2 ≡ map (exchangedNode t) (triples f 2)
   nodes =
       (λ z. listOf (sizes 2 (omega arith) z / 3) (λ j. tripleAt (section g 2) (3 * j)))
-      ∙ listOf-ext m _ _ (λ j h. λ z. (kind j h z, operand j 1 h (omega arith) (omega arith) z, operand j 2 h (omega arith) (omega arith) z))
+      ∙ listOf-ext m _ _ (λ j h.
+      let kind = kind-at (3 * j) j h refl in
+      let a = other-at (3 * j + 1) (omega arith) (λ i k q. omega arith) in
+      let b = other-at (3 * j + 2) (omega arith) (λ i k q. omega arith) in
+      λ z. (kind z, a z, b z))
       ∙ sym (map-listOf (exchangedNode t) m (λ j. tripleAt (section f 2) (3 * j)))
 
   -- the root's byte is past the last whole triple; perhaps there is none
   root-byte : (i : ℕ) → i ≡ 3 * m → byteAt (section g 2) i ≡ byteAt (section f 2) i
   unfolding section
   root-byte i q = elim (decLt i (size f 2)) [
-    | yes h ↦ rule-byte i h ∙ past (offset f 2 + i) (omega arith) ∙ sym (old-byte i h)
+    | yes h ↦ other-at i h (λ j k e. omega arith)
     | no h ↦
         ap (λ l. byteAt l i) (section-as 2 (omega arith)) ∙ getD-listOf-end (size f 2) _ 0 i (omega arith)
         ∙ sym (getD-listOf-end (size f 2) (λ i. byteAt f (offset f 2 + i)) 0 i (omega arith))

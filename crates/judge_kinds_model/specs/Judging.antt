@@ -18,7 +18,7 @@ use Rattle.judge_kinds_model.specs.Exchange.{exchanged, exchangedCase}
 abbrev pub row15 : List ℕ → Found
 row15 t = unless (isTable t) 15 0
 
--- what was found before a reply is made, or else that reply
+-- clause 7.3: what was found before a reply is made, or else that reply
 infixl 20 _orReply_
 abbrev pub _orReply_ : {A : Type 0} → Found → Reply A → Reply A
 sound orReply r = r
@@ -38,6 +38,10 @@ pub record SameLayout (t f : List ℕ) : Type 0 where
 -- clause 13.7: a node whose kind byte is past the table is at fault
 abbrev pub AboveWrong : List ℕ → List ℕ → Type 0
 AboveWrong t f = (j : ℕ) → j < length (read f .nodes) → length kinds ≤ at (read f .nodes) j .0 → nodeWrong (read (exchanged t f)) j ≡ true
+
+-- clause 1.17: two files get the same replies by every table
+abbrev pub SameByTable : List ℕ → List ℕ → Type 0
+SameByTable f g = (t : List ℕ) (x words : ℕ) → judgingKinds t f x words ≡ judgingKinds t g x words
 
 -- clause 13.8: our own numbers
 abbrev pub OwnNumbers : Type 0
