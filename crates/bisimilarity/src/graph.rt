@@ -13,7 +13,7 @@ use case_file::Case;
 use case_reader::label;
 use vocabulary::looked;
 
-#[derive(Drop)]
+#[derive(Clone, Copy)]
 pub struct Graph {
     pub(crate) states: usize,
     // of each label the propositions that are looked at

@@ -1,4 +1,6 @@
 // Internal: which states of an accepted case are alike, by refinement; serves bisim and merging.
+#![tactic(auto)]
+
 mod graph;
 mod masks;
 mod refinement;

@@ -10,12 +10,12 @@ use crate::vetting::{Counts, Vetted, vet_within};
 use case_reader::Kind;
 
 // An accepted case.
-#[derive(Drop)]
+#[derive(Clone, Copy)]
 pub struct Case {
     counts: Counts,
 }
 
-#[derive(Drop)]
+#[derive(Clone, Copy)]
 pub enum Checked {
     Case(Case),
     Refused(Refusal),

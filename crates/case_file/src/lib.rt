@@ -1,4 +1,6 @@
 // The case file: vetting it, and opening a section; and the replies that entries share. docs/SPECIFICATION.md, sections 1 and 7, and refusals 1 to 8.
+#![tactic(auto)]
+
 mod case;
 mod entries;
 mod reason;

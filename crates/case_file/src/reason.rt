@@ -2,7 +2,7 @@
 ghost use Rattle.std.specs.Prelude.{◌≡◌};
 ghost use Rattle.case_file.specs.EnumNumbers.{number};
 
-#[derive(Drop)]
+#[derive(Clone, Copy)]
 pub enum Reason {
     Pairs,
     Labels,
@@ -21,7 +21,7 @@ pub enum Reason {
     Table,
 }
 
-#[derive(Drop)]
+#[derive(Clone, Copy)]
 pub struct Refusal {
     pub reason: Reason,
     pub place: usize,

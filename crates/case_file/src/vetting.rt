@@ -15,26 +15,26 @@ use case_tests::{
 };
 
 // How many states and nodes a file has.
-#[derive(Drop)]
+#[derive(Clone, Copy)]
 pub struct Counts {
     pub states: usize,
     pub nodes: usize,
 }
 
-#[derive(Drop)]
+#[derive(Clone, Copy)]
 pub enum Vetted {
     Counts(Counts),
     Refused(Refusal),
 }
 
-#[derive(Drop)]
+#[derive(Clone, Copy)]
 pub(crate) enum Finding {
     Sound,
     Refused(Refusal),
 }
 
 // The counts of the file, and what the tests so far have found.
-#[derive(Drop)]
+#[derive(Clone, Copy)]
 pub(crate) struct Vetting {
     counts: Counts,
     finding: Finding,

@@ -6,7 +6,7 @@ ghost use Rattle.case_file.specs.EnumNumbers.{number, written_reply};
 use crate::reason::{Reason, Refusal};
 
 // How many bytes were written, or the first refusal.
-#[derive(Drop)]
+#[derive(Clone, Copy)]
 pub enum Written {
     Bytes(usize),
     Refused(Refusal),

@@ -23,7 +23,7 @@ use Rattle.case_model.specs.Valid.{Valid}
 use Rattle.case_model.proofs.Sections.{section-length, head_first, section_gap, last_end}
 use Rattle.case_model.proofs.Lists.{length-list_of, get_or-list_of}
 use Rattle.case_model.proofs.Valid.{accepted_pairs, steps_whole, rule_whole, accepted_valid}
-use Rattle.case_model.proofs.Order.{in_order}
+use Rattle.case_model.proofs.Order.{in_order_lem}
 use Rattle.case_model.proofs.Steps.{InRange, steps_few}
 use Rattle.case_model.proofs.Starts.{starts_few}
 use Rattle.case_model.proofs.StepOrder.{steps_right}
@@ -82,9 +82,9 @@ step_at : (i : ℕ) → i < 2048 → at fullest.steps i ≡ numbered i
 unfolding fullest
 step_at i h = get_or-list_of 2048 numbered (0, 0, 0) i h
 
-node_at : (j : ℕ) → j < 64 → at fullest.nodes j ≡ (5, 0, 0)
+node_at_lem : (j : ℕ) → j < 64 → at fullest.nodes j ≡ (5, 0, 0)
 unfolding fullest
-node_at j h = get_or-replicate 64 j (5, 0, 0) (0, 0, 0) h
+node_at_lem j h = get_or-replicate 64 j (5, 0, 0) (0, 0, 0) h
 
 start_at : (i : ℕ) → i < 16 → byte_at fullest.starts i ≡ i
 unfolding fullest
@@ -100,7 +100,7 @@ step_right = steps_right fullest (omega (arith, labels_16))
     (λ i h. rw (step_at i (omega (arith, steps_2048)), step_at (suc i) (omega (arith, steps_2048))) (omega arith))
 
 start_right : (i : ℕ) → i < length fullest.starts → start_wrong fullest i ≡ false
-start_right = in_order (λ s. ltb s (length fullest.labels)) ltb (byte_at fullest.starts) (length fullest.starts)
+start_right = in_order_lem (λ s. ltb s (length fullest.labels)) ltb (byte_at fullest.starts) (length fullest.starts)
     (λ i h. rw (start_at i (omega (arith, starts_16))) (lt-ltb i (length fullest.labels) (omega (arith, starts_16, labels_16))))
     (λ i h. rw (start_at i (omega (arith, starts_16)), start_at (suc i) (omega (arith, starts_16))) (lt-ltb i (suc i) (omega arith)))
 
@@ -110,8 +110,8 @@ fullest_valid = record {
   rule = record {
     most = omega (arith, nodes_64);
     root = unfold fullest in omega (arith, nodes_64);
-    kinds = λ j h. rw (node_at j (omega (arith, nodes_64)));
-    binders = λ j h. rw (node_at j (omega (arith, nodes_64)));
+    kinds = λ j h. rw (node_at_lem j (omega (arith, nodes_64)));
+    binders = λ j h. rw (node_at_lem j (omega (arith, nodes_64)));
     closed = unfold fullest in refl;
   };
   table = record { some = omega (arith, labels_16); few = omega (arith, labels_16); steps = step_right };

@@ -17,7 +17,7 @@ use Rattle.case_model.specs.Merging.{moved, is_in, merge}
 use Rattle.case_model.specs.Rows.{start_wrong}
 use Rattle.case_model.specs.Run.{every_start}
 use Rattle.case_model.specs.Valid.{Valid}
-use Rattle.case_model.proofs.Order.{in_order}
+use Rattle.case_model.proofs.Order.{in_order_lem}
 use Rattle.case_model.proofs.Selected.{selected_use, selected_mk, selected_next}
 use Rattle.case_model.proofs.Starts.{start_in}
 
@@ -72,7 +72,7 @@ module _ {most : Limits} {c : Case} (valid : Valid most c) (k r : ℕ) (few : le
   -- row 4
   pub new_starts_right : (i : ℕ) → i < length new → start_wrong (merge c k r) i ≡ false
   new_starts_right =
-      in_order (λ s. ltb s (length (merge c k r).labels)) ltb (byte_at new) (length new)
+      in_order_lem (λ s. ltb s (length (merge c k r).labels)) ltb (byte_at new) (length new)
       (λ i h. lt-ltb (byte_at new i) (length (merge c k r).labels) (new_in i h))
       (λ i h. lt-ltb (byte_at new i) (byte_at new (suc i)) (new_next i h))
 

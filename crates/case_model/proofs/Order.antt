@@ -25,9 +25,9 @@ module _ {A : Type 0} (in_range : A → Bool) (after : A → A → Bool) (l : �
       rw (p, z) at r
 
   -- and back
-  pub in_order : (k : ℕ) → ((i : ℕ) → i < k → in_range (l i) ≡ true) → ((i : ℕ) → suc i < k → after (l i) (l (suc i)) ≡ true)
+  pub in_order_lem : (k : ℕ) → ((i : ℕ) → i < k → in_range (l i) ≡ true) → ((i : ℕ) → suc i < k → after (l i) (l (suc i)) ≡ true)
       → (i : ℕ) → i < k → out_of_order in_range after l i ≡ false
-  in_order k range next i h = rw (range i h) (ap not (go i h))
+  in_order_lem k range next i h = rw (range i h) (ap not (go i h))
     where
       go : (i : ℕ) → i < k → (eqb i 0 || after (l (i - 1)) (l i)) ≡ true
       go zero h = refl

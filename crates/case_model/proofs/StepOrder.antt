@@ -14,7 +14,7 @@ use Rattle.case_model.specs.Case.{Case, listed, at}
 use Rattle.case_model.specs.Kinds.{Triple}
 use Rattle.case_model.specs.Rows.{rises, step_fits, step_wrong}
 use Rattle.case_model.specs.Merging.{numbered, is_step, in_order}
-use Rattle.case_model.proofs.Order.{in_order}
+use Rattle.case_model.proofs.Order.{in_order_lem}
 use Rattle.case_model.proofs.Selected.{selected_next, selected_use, selected_mk}
 use Rattle.case_model.proofs.Steps.{InRange, number, number-rises, listed_at}
 
@@ -78,6 +78,6 @@ pub steps_right : (c : Case) → length c.labels ≤ 16
     → ((i : ℕ) → suc i < length c.steps → number (at c.steps i) < number (at c.steps (suc i)))
     → (i : ℕ) → i < length c.steps → step_wrong c i ≡ false
 steps_right c few range next =
-    in_order (step_fits (length c.labels)) rises (at c.steps) (length c.steps)
+    in_order_lem (step_fits (length c.labels)) rises (at c.steps) (length c.steps)
     (λ i h. let r = range i h in rw (lt-ltb _ _ r.from, lt-ltb _ _ r.action, lt-ltb _ _ r.to))
     (λ i h. number-rises few _ _ (range i (omega arith)) (range (suc i) h) (next i h))

@@ -1,4 +1,6 @@
 // Internal: what judging needs of a case, worked out once, for the crates that fill tables.
+#![tactic(auto)]
+
 mod places;
 mod planning;
 mod sets;

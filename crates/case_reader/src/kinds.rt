@@ -7,7 +7,7 @@ ghost use Rattle.case_reader.specs.NodeKinds.{line_of};
 use crate::parts::Triple;
 
 // What is constant, τ; and the modalities, of some step if true, else of all steps: those of one action and those of a group of actions.
-#[derive(Drop)]
+#[derive(Clone, Copy)]
 pub enum Atom {
     Top,
     Bottom,
@@ -18,7 +18,7 @@ pub enum Atom {
     Group(bool),
 }
 
-#[derive(Drop)]
+#[derive(Clone, Copy)]
 pub enum Operator {
     Or,
     And,
@@ -26,7 +26,7 @@ pub enum Operator {
 }
 
 // A leaf, which names no node: an atom or a variable; a node that names two; or a binder, of the least fixed point if true, else of the greatest.
-#[derive(Drop)]
+#[derive(Clone, Copy)]
 pub enum Kind {
     Atom(Atom),
     Variable,

@@ -1,5 +1,7 @@
 // Reading the parts of a case from any bytes, the kinds of its nodes, their free variables and which of them are reached, its steps as a table, and sets of
 // states: docs/SPECIFICATION.md, section 1.
+#![tactic(auto)]
+
 mod bytes;
 mod frees;
 mod kinds;

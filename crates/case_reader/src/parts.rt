@@ -11,7 +11,7 @@ use crate::bytes::{byte, word};
 pub const SECTIONS: usize = 4;
 
 // A step (from, action, to), or a node (kind, A, B).
-#[derive(Drop)]
+#[derive(Clone, Copy)]
 pub struct Triple(pub usize, pub usize, pub usize);
 
 // Where a section begins, and how many bytes it has, as its pair says.

@@ -1,4 +1,6 @@
 // Internal: the tests of refusals 1 to 7, each over any bytes; serves case_file and judge_kinds.
+#![tactic(auto)]
+
 mod limits;
 mod pairs;
 mod tests;

@@ -1,7 +1,7 @@
 // How large the parts of a case may be.
 
 // What a judge may set for itself: the length of the longest file, and how many states there can be.
-#[derive(Drop)]
+#[derive(Clone, Copy)]
 pub struct Limits {
     pub longest: usize,
     pub states: usize,

@@ -97,7 +97,7 @@ fn binder_wrong(file: &[u8], j: usize) -> bool
 }
 
 // What a search goes through.
-#[derive(Drop)]
+#[derive(Clone, Copy)]
 pub enum Search {
     Step,
     Node,

@@ -1,4 +1,6 @@
 // Internal: writes the sections of a case file, packed, to an output area; serves merging, rewriting and judge_kinds.
+#![tactic(auto)]
+
 mod head;
 mod runs;
 

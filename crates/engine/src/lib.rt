@@ -1,4 +1,6 @@
 // Internal: the tables of all nodes of a rule, from a plan of its case. It serves the entries that judge.
+#![tactic(auto)]
+
 mod begin;
 mod nodes;
 mod refresh;

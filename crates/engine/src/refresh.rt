@@ -9,7 +9,7 @@ use case_reader::{Kind, kind_of};
 use tables::advance;
 
 // A binder: its node, its variable and its body.
-#[derive(Drop)]
+#[derive(Clone, Copy)]
 pub struct Binder {
     pub node: usize,
     pub variable: usize,

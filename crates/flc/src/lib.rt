@@ -1,1 +1,2 @@
 // The logic: definitions in specs/, lemmas in proofs/. No code.
+#![tactic(auto)]

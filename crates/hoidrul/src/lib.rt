@@ -1,4 +1,6 @@
 // The C boundary: one thin function an entry, with its reply packed into one number. include/hoidrul.h declares the same functions.
+#![tactic(auto)]
+
 ghost use Rattle.std.specs.Prelude.{◌≡◌, ◌+◌, ◌*◌, ◌^◌, ◌<◌, length};
 ghost use Rattle.case_model.specs.Replies.{vetting, opening, opened_at, counted, written};
 ghost use Rattle.case_model.specs.Judging.{judging, cleared};

@@ -14,13 +14,13 @@ use case_plan::{Plan, ROOT, SIZE, plan};
 use engine::run;
 use tables::clear;
 
-#[derive(Drop)]
+#[derive(Clone, Copy)]
 pub struct Verdict {
     pub set: u16,
     pub rounds: usize,
 }
 
-#[derive(Drop)]
+#[derive(Clone, Copy)]
 pub enum Judged {
     Verdict(Verdict),
     Refused(Refusal),

@@ -1,4 +1,6 @@
 // Judges one case from standard input on all its states, and prints which of them hold, or the refusal.
+#![tactic(auto)]
+
 ghost use Rattle.std.specs.Prelude.{◌++◌, ◌≡◌, ◌+◌, ◌≤◌, length};
 ghost use Rattle.flc.specs.Sets.{has};
 ghost use Rattle.case_model.specs.Case.{read};
@@ -24,7 +26,7 @@ fn starts_hold(file: &[u8], set: u16) -> bool
 }
 
 // What is to be printed: the first `length` bytes.
-#[derive(Drop)]
+#[derive(Clone, Copy)]
 struct Page {
     bytes: [u8; 512],
     length: usize,

@@ -1,4 +1,6 @@
 // Judging a case whose kinds have other numbers, by a table that the caller lends. docs/SPECIFICATION.md, section 13.
+#![tactic(auto)]
+
 mod entry;
 mod exchange;
 

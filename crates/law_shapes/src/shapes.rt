@@ -10,7 +10,7 @@ use case_reader::{Kind, Triple, node};
 
 // What a law does at node j. If its shape is there, j gives way to the first 1 + `added` of three nodes; then mentions of j
 // become `to`, or numbers from j up move by `added`.
-#[derive(Drop)]
+#[derive(Clone, Copy)]
 pub struct Shape {
     pub there: bool,
     pub added: usize,

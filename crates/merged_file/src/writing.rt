@@ -12,7 +12,7 @@ use merged_starts::{merged_starts, put_starts};
 use merged_steps::{Pair, count, merged_rows, put_steps};
 
 // How many bytes each section has.
-#[derive(Drop)]
+#[derive(Clone, Copy)]
 struct Sizes {
     labels: usize,
     steps: usize,

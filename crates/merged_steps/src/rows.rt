@@ -12,7 +12,7 @@ use case_reader::{Triple, mark};
 use case_writer::put_triple;
 
 // Two states: the lower is kept, the higher removed.
-#[derive(Drop)]
+#[derive(Clone, Copy)]
 pub struct Pair {
     pub kept: usize,
     pub removed: usize,

@@ -1,4 +1,6 @@
 // Does a list of bytes name each number below a given one once? docs/SPECIFICATION.md, clause 13.1.
+#![tactic(auto)]
+
 ghost use Rattle.std.specs.Prelude.{◌≡◌};
 ghost use Rattle.flc.specs.Permutations.{times, is_permutation};
 

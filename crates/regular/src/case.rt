@@ -8,12 +8,12 @@ ghost use Rattle.regular.specs.declared.case.LargeChecked.TheVariants as checked
 use case_file::{Counts, Reason, Refusal, Vetted, vet_within};
 
 // An accepted case.
-#[derive(Drop)]
+#[derive(Clone, Copy)]
 pub struct LargeCase {
     counts: Counts,
 }
 
-#[derive(Drop)]
+#[derive(Clone, Copy)]
 pub enum LargeChecked {
     Case(LargeCase),
     Refused(Refusal),

@@ -18,7 +18,7 @@ use crate::bytes::{agrees, member, take};
 use case_reader::{Atom, Kind, Triple, kind_of, section_offset};
 
 // Of some step if true, else of all, by the actions of a group, which are among those from `first` up to `last`.
-#[derive(Drop)]
+#[derive(Clone, Copy)]
 pub struct Modality {
     pub some: bool,
     pub group: usize,

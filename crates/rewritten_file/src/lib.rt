@@ -1,4 +1,6 @@
 // Internal: the file that a law makes of a file, its lengths and its bytes; serves rewriting.
+#![tactic(auto)]
+
 mod plan;
 
 pub use plan::{Plan, Sizes, new_sizes, write_new};

@@ -15,7 +15,7 @@ use case_writer::{put_byte, put_pairs, put_part, put_triple};
 use law_shapes::Shape;
 
 // What is done at node j of a file, and how many nodes there are then.
-#[derive(Drop)]
+#[derive(Clone, Copy)]
 pub struct Plan {
     pub shape: Shape,
     pub j: usize,
@@ -84,7 +84,7 @@ fn new_node(file: &[u8], plan: Plan, i: usize) -> Triple
 }
 
 // How many bytes each section of the new file has, and the whole file.
-#[derive(Drop)]
+#[derive(Clone, Copy)]
 pub struct Sizes {
     labels: usize,
     steps: usize,

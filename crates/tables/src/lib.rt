@@ -1,4 +1,6 @@
 // Internal: tables in a work area, filled one from others, for the crates that compute the nodes of a rule.
+#![tactic(auto)]
+
 mod fill;
 mod modal;
 mod words;

@@ -12,7 +12,7 @@ ghost use Rattle.vocabulary.specs.Gathering.{vocabulary_of, with_node};
 
 use case_reader::{Atom, Kind, Triple, kind_of, node, node_count, reached};
 
-#[derive(Drop)]
+#[derive(Clone, Copy)]
 pub struct Vocabulary {
     pub props: usize,
     pub acts: usize,

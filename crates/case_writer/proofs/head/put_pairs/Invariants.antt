@@ -1,0 +1,13 @@
+-- `case_writer::head::put_pairs` meets its contract: after i turns the first i pairs are laid.
+use Prim.Native.Nat.{◌-◌}
+use native.Mathlib.Omega.{arith}
+use lib.ListN.{length}
+use Rattle.case_writer.proofs.Pairs.{Pairing, pairing_none, pairing_room, pairing_turn, pairing_all}
+use borrow.Author.Rules.{rules}
+use Rattle.case_writer.proofs.head.put_pairs.Given as goal
+
+abbrev pub invariant-loop-i : goal.invariant-loop-i
+invariant-loop-i l = Pairing l.sizes l.initial.out l.out l.i l.at l.offset
+
+abbrev pub decreases-loop-i : goal.decreases-loop-i
+decreases-loop-i l = length l.sizes - l.i
