@@ -1,8 +1,10 @@
 -- `regular_sets::labels::label_bit` meets its contract: bit p of the label, or its complement.
-use Prim.Native.Nat.{◌≤◌, ◌<◌}
+use Prim.Native.Nat.{ℕ, ◌≤◌, ◌<◌}
+use mathlib.Core.Bool.{Bool}
+use mathlib.Core.List.{List}
 use mathlib.Core.Path.{◌≡◌, sym, ap, ◌∙◌}
 use native.Mathlib.Omega.{arith}
-use lib.ListN.{length}
+use lib.ListN.{length, get_or}
 use Rattle.flc.specs.Sets.{has, bit}
 use Rattle.flc.specs.Order.{signed}
 use Rattle.flc.specs.Formula.{mean_atom}
@@ -18,25 +20,20 @@ returns-then-n-s c =
     ap bit (sym (label_beyond (table (read c.args.file.now)) c.args.with c.args.p c.args.s past))
 
 -- the label was read and compared with the flag
-answer : (c : goal.Then-agrees) → c.agrees.result
-    ≡ has (mean_atom (table (read c.args.file.now)) (label_atom c.args.with c.args.p) 0) c.args.s
-unfolding table has
-answer c =
-    let inside : c.args.s < length (read c.args.file.now).labels = omega (arith, c.if-n-s.false, c.requires.0) in
-    c.agrees.ensures ∙ ap (λ l. signed c.args.with (has l c.args.p)) c.label.ensures.is
-    ∙ sym (label_at (table (read c.args.file.now)) c.args.with c.args.p c.args.s inside)
+answer : (f : List ℕ) (with : Bool) (p s : ℕ) → s < length (read f).labels → {test : Bool} {label : ℕ}
+    → test ≡ signed with (has label p) → label ≡ get_or (read f).labels s 0
+    → test ≡ has (mean_atom (table (read f)) (label_atom with p) 0) s
+unfolding table
+answer f with p s inside e q = e ∙ ap (λ l. signed with (has l p)) q ∙ sym (label_at (table (read f)) with p s inside)
 
 pub returns-then-agrees : goal.returns-then-agrees
-returns-then-agrees c = ap bit (sym c.if-agrees.true ∙ answer c)
-
--- the label was read and compared with the flag
-answer_2 : (c : goal.Else-agrees) → c.agrees.result
-    ≡ has (mean_atom (table (read c.args.file.now)) (label_atom c.args.with c.args.p) 0) c.args.s
-unfolding table has
-answer_2 c =
+unfolding has
+returns-then-agrees c =
     let inside : c.args.s < length (read c.args.file.now).labels = omega (arith, c.if-n-s.false, c.requires.0) in
-    c.agrees.ensures ∙ ap (λ l. signed c.args.with (has l c.args.p)) c.label.ensures.is
-    ∙ sym (label_at (table (read c.args.file.now)) c.args.with c.args.p c.args.s inside)
+    ap bit (sym c.if-agrees.true ∙ answer c.args.file.now c.args.with c.args.p c.args.s inside c.agrees.ensures c.label.ensures.is)
 
 pub returns-else-agrees : goal.returns-else-agrees
-returns-else-agrees c = ap bit (sym c.if-agrees.false ∙ answer_2 c)
+unfolding has
+returns-else-agrees c =
+    let inside : c.args.s < length (read c.args.file.now).labels = omega (arith, c.if-n-s.false, c.requires.0) in
+    ap bit (sym c.if-agrees.false ∙ answer c.args.file.now c.args.with c.args.p c.args.s inside c.agrees.ensures c.label.ensures.is)

@@ -1,5 +1,6 @@
 -- `regular_sets::modal::decides` meets its contract: bit a of the group, and the places of the steps by a.
-use Prim.Native.Nat.{ℕ, ◌+◌, ◌*◌, ◌≤◌, ◌<◌}
+use Prim.Native.Nat.{ℕ, ◌+◌, ◌*◌, ◌≤◌}
+use mathlib.Core.List.{List}
 use mathlib.Core.Path.{sym, ap₂, ◌∙◌}
 use native.Mathlib.Omega.{arith}
 use borrow.Author.Tests.{eq-eqb, ne_eqb}
@@ -9,119 +10,52 @@ use Rattle.case_model.specs.Case.{read}
 use Rattle.regular_model.specs.HeldSets.{held_at}
 use Rattle.regular_model.specs.StepGroups.{hits}
 use Rattle.regular_model.proofs.StepGroups.{group_within}
+use Rattle.regular_sets.specs.Views.{Viewed}
 use Rattle.regular_sets.proofs.Hitting.{one_in, one_out}
 use Rattle.regular_sets.proofs.modal.decides.Goals as goal
 
--- the places of the steps of state s by action a: they begin at key k and end at the next
-abbrev key_of : goal.After-shared_slice_known-1 → ℕ
-key_of c = 8 * c.args.s + c.args.a
+-- the entry of a key is a place of the list
+place : {f index : List ℕ} → Viewed f index → (k : ℕ) → k ≤ 8 * length (read f).labels → get_or index k 0 ≤ length (read f).steps
+place v k h = omega (arith, v.places k h, group_within v.table k)
 
--- both are keys of the index
-below : (c : goal.After-shared_slice_known-1) → key_of c + 1 ≤ 8 * length (read c.args.file.now).labels
-below c = omega (arith, c.requires)
-
--- and there are few keys
-few : (c : goal.After-shared_slice_known-1) → key_of c < 2048
-few c = omega (arith, below c, c.requires.0.table.few)
-
+-- the places of the steps of state s by action a begin at key k and end at the next: both are keys of the index, and there are few keys
 pub overflow_mul-k : goal.overflow_mul-k
-overflow_mul-k c = omega (arith, few c)
+overflow_mul-k c = omega (arith, c.requires, c.requires.0.table.few)
 
 pub overflow_add-k : goal.overflow_add-k
-overflow_add-k c = omega (arith, few c)
-
--- the places of the steps of state s by action a: they begin at key k and end at the next
-abbrev key_of_2 : goal.Then-m-a-eq1 → ℕ
-key_of_2 c = 8 * c.args.s + c.args.a
-
--- both are keys of the index
-below_2 : (c : goal.Then-m-a-eq1) → key_of_2 c + 1 ≤ 8 * length (read c.args.file.now).labels
-below_2 c = omega (arith, c.requires)
-
--- and there are few keys
-few_2 : (c : goal.Then-m-a-eq1) → key_of_2 c < 2048
-few_2 c = omega (arith, below_2 c, c.requires.0.table.few)
+overflow_add-k c = omega (arith, c.requires, c.requires.0.table.few)
 
 pub offset_bounds-index-k : goal.offset_bounds-index-k
-offset_bounds-index-k c = omega (arith, few_2 c)
-
--- the places of the steps of state s by action a: they begin at key k and end at the next
-abbrev key_of_3 : goal.After-way_told-1 → ℕ
-key_of_3 c = 8 * c.args.s + c.args.a
-
--- both are keys of the index
-below_3 : (c : goal.After-way_told-1) → key_of_3 c + 1 ≤ 8 * length (read c.args.file.now).labels
-below_3 c = omega (arith, c.requires)
-
--- and there are few keys
-few_3 : (c : goal.After-way_told-1) → key_of_3 c < 2048
-few_3 c = omega (arith, below_3 c, c.requires.0.table.few)
+offset_bounds-index-k c = omega (arith, c.requires, c.requires.0.table.few)
 
 pub bounds-index-k : goal.bounds-index-k
-bounds-index-k c = omega (arith, few_3 c, c.requires.0.long)
-
--- its entry is a place of the list
-place : (c : goal.After-hit-arg-1) (k : ℕ) → k ≤ 8 * length (read c.args.file.now).labels
-    → get_or c.args.index.now k 0 ≤ length (read c.args.file.now).steps
-place c k h = omega (arith, c.requires.0.places k h, group_within c.requires.0.table k)
-
--- the places of the steps of state s by action a: they begin at key k and end at the next
-abbrev key_of_4 : goal.After-hit-arg-1 → ℕ
-key_of_4 c = 8 * c.args.s + c.args.a
-
--- both are keys of the index
-below_4 : (c : goal.After-hit-arg-1) → key_of_4 c + 1 ≤ 8 * length (read c.args.file.now).labels
-below_4 c = omega (arith, c.requires)
+bounds-index-k c = omega (arith, c.requires, c.requires.0.table.few, c.requires.0.long)
 
 pub overflow_cast-index : goal.overflow_cast-index
 overflow_cast-index c =
-    omega (arith, place c (key_of_4 c) (omega (arith, below_4 c)), c.requires.1.few)
-
--- and there are few keys
-few_4 : (c : goal.After-hit-arg-1) → key_of_4 c < 2048
-few_4 c = omega (arith, below_4 c, c.requires.0.table.few)
+    omega (arith, place c.requires.0 (8 * c.args.s + c.args.a) (omega (arith, c.requires)), c.requires.1.few)
 
 pub offset_bounds-index-k-then-m-a-eq1 : goal.offset_bounds-index-k-then-m-a-eq1
-offset_bounds-index-k-then-m-a-eq1 c = omega (arith, few_4 c)
+offset_bounds-index-k-then-m-a-eq1 c = omega (arith, c.requires, c.requires.0.table.few)
 
 pub bounds-index-k-then-m-a-eq1 : goal.bounds-index-k-then-m-a-eq1
-bounds-index-k-then-m-a-eq1 c = omega (arith, few_4 c, c.requires.0.long)
-
--- its entry is a place of the list
-place_2 : (c : goal.After-hit-arg-then-m-a-eq1-1) (k : ℕ) → k ≤ 8 * length (read c.args.file.now).labels
-    → get_or c.args.index.now k 0 ≤ length (read c.args.file.now).steps
-place_2 c k h = omega (arith, c.requires.0.places k h, group_within c.requires.0.table k)
-
--- the places of the steps of state s by action a: they begin at key k and end at the next
-abbrev key_of_5 : goal.After-hit-arg-then-m-a-eq1-1 → ℕ
-key_of_5 c = 8 * c.args.s + c.args.a
-
--- both are keys of the index
-below_5 : (c : goal.After-hit-arg-then-m-a-eq1-1) → key_of_5 c + 1 ≤ 8 * length (read c.args.file.now).labels
-below_5 c = omega (arith, c.requires)
+bounds-index-k-then-m-a-eq1 c = omega (arith, c.requires, c.requires.0.table.few, c.requires.0.long)
 
 pub overflow_cast-index-then-m-a-eq1 : goal.overflow_cast-index-then-m-a-eq1
 overflow_cast-index-then-m-a-eq1 c =
-    omega (arith, place_2 c (key_of_5 c + 1) (below_5 c), c.requires.1.few)
+    omega (arith, place c.requires.0 (8 * c.args.s + c.args.a + 1) (omega (arith, c.requires)), c.requires.1.few)
 
 pub hit-requires : goal.hit-requires
 hit-requires c =
-    (c.requires.1, place_2 c (key_of_5 c + 1) (below_5 c), c.requires.4)
-
--- the places of the steps of state s by action a: they begin at key k and end at the next
-abbrev key_of_6 : goal.After-hit → ℕ
-key_of_6 c = 8 * c.args.s + c.args.a
-
--- both are keys of the index
-below_6 : (c : goal.After-hit) → key_of_6 c + 1 ≤ 8 * length (read c.args.file.now).labels
-below_6 c = omega (arith, c.requires)
+    (c.requires.1, place c.requires.0 (8 * c.args.s + c.args.a + 1) (omega (arith, c.requires)), c.requires.4)
 
 pub returns-then-m-a-eq1 : goal.returns-then-m-a-eq1
 unfolding has
 returns-then-m-a-eq1 c =
+    let k = 8 * c.args.s + c.args.a in
     let places = c.requires.0.places in
     c.hit.ensures
-    ∙ ap₂ (hits _ (held_at c.args.x.now 0) c.args.m.some) (places (key_of_6 c) (omega (arith, below_6 c))) (places (key_of_6 c + 1) (below_6 c))
+    ∙ ap₂ (hits _ (held_at c.args.x.now 0) c.args.m.some) (places k (omega (arith, c.requires))) (places (k + 1) (omega (arith, c.requires)))
     ∙ one_in _ _ _ _ c.args.s c.args.a (eq-eqb _ _ c.if-m-a-eq1.true)
 
 pub returns-else-m-a-eq1 : goal.returns-else-m-a-eq1

@@ -1,5 +1,4 @@
 -- `regular_sets::nodes::fill_two` meets its contract, operator by operator: both nodes lie below, so their blocks end before that of node j.
-use Prim.Native.Nat.{◌<◌}
 use mathlib.Core.Path.{◌≡◌, sym, subst}
 use mathlib.Core.Bool.{true}
 use native.Mathlib.Omega.{arith}
@@ -10,63 +9,44 @@ use Rattle.regular_sets.proofs.nodes.fill_two.Goals as goal
 pub node-x-requires : goal.node-x-requires
 node-x-requires c = let F = c.requires.0 in omega (arith, F.there, F.drawn.rule.most)
 
-low : (c : goal.After-struct_known-1) → (c.node-x.result.1 < c.args.j) × (c.node-x.result.2 < c.args.j)
-low c = two_low c.requires.0 c.node-x.ensures c.args.operator c.requires.1
-
 pub overflow_mul-a : goal.overflow_mul-a
 overflow_mul-a c =
     let F = c.requires.0 in
-    omega (arith, low c, F.there, F.drawn.rule.most)
-
-low_2 : (c : goal.After-struct_known-2-1) → (c.node-x.result.1 < c.args.j) × (c.node-x.result.2 < c.args.j)
-low_2 c = two_low c.requires.0 c.node-x.ensures c.args.operator c.requires.1
+    omega (arith, two_low F c.node-x.ensures c.args.operator c.requires.1, F.there, F.drawn.rule.most)
 
 pub overflow_mul-b : goal.overflow_mul-b
 overflow_mul-b c =
     let F = c.requires.0 in
-    omega (arith, low_2 c, F.there, F.drawn.rule.most)
+    omega (arith, two_low F c.node-x.ensures c.args.operator c.requires.1, F.there, F.drawn.rule.most)
 
 pub overflow_mul-c : goal.overflow_mul-c
 overflow_mul-c c = let F = c.requires.0 in omega (arith, F.there, F.drawn.rule.most)
 
-low_3 : (c : goal.After-union-arg-1) → (c.node-x.result.1 < c.args.j) × (c.node-x.result.2 < c.args.j)
-low_3 c = two_low c.requires.0 c.node-x.ensures c.args.operator c.requires.1
-
 pub union-requires : goal.union-requires
 union-requires c =
-    (omega (arith, low_3 c), omega (arith, low_3 c), here c.requires.0)
-
-low_4 : (c : goal.After-intersection-arg-1) → (c.node-x.result.1 < c.args.j) × (c.node-x.result.2 < c.args.j)
-low_4 c = two_low c.requires.0 c.node-x.ensures c.args.operator c.requires.1
+    let low = two_low c.requires.0 c.node-x.ensures c.args.operator c.requires.1 in
+    (omega arith, omega arith, here c.requires.0)
 
 pub intersection-requires : goal.intersection-requires
 intersection-requires c =
-    (omega (arith, low_4 c), omega (arith, low_4 c), here c.requires.0)
-
-low_5 : (c : goal.In-Chop) → (c.node-x.result.1 < c.args.j) × (c.node-x.result.2 < c.args.j)
-low_5 c = two_low c.requires.0 c.node-x.ensures c.args.operator c.requires.1
+    let low = two_low c.requires.0 c.node-x.ensures c.args.operator c.requires.1 in
+    (omega arith, omega arith, here c.requires.0)
 
 pub node-requires : goal.node-requires
 node-requires c =
     let F = c.requires.0 in
-    omega (arith, low_5 c, F.there, F.drawn.rule.most)
-
-low_6 : (c : goal.After-node) → (c.node-x.result.1 < c.args.j) × (c.node-x.result.2 < c.args.j)
-low_6 c = two_low c.requires.0 c.node-x.ensures c.args.operator c.requires.1
+    omega (arith, two_low F c.node-x.ensures c.args.operator c.requires.1, F.there, F.drawn.rule.most)
 
 pub modality_at-left-requires : goal.modality_at-left-requires
 modality_at-left-requires c =
     let F = c.requires.0 in
     let a = c.node-x.result.1 in
-    (a, subst (λ (t : Triple). node_holds a t ≡ true) (sym c.node.ensures) (F.drawn.rule.kinds a (omega (arith, low_6 c, F.there))))
-
-low_7 : (c : goal.After-modal_set-arg-in-Chop-1) → (c.node-x.result.1 < c.args.j) × (c.node-x.result.2 < c.args.j)
-low_7 c = two_low c.requires.0 c.node-x.ensures c.args.operator c.requires.1
+    (a, subst (λ (t : Triple). node_holds a t ≡ true) (sym c.node.ensures) (F.drawn.rule.kinds a (omega (arith, two_low F c.node-x.ensures c.args.operator c.requires.1, F.there))))
 
 pub modal_set-requires : goal.modal_set-requires
 modal_set-requires c =
     let F = c.requires.0 in
-    (F.drawn.viewed, c.modality_at-left.ensures.0, F.drawn.states, omega (arith, low_7 c, here F), here F)
+    (F.drawn.viewed, c.modality_at-left.ensures.0, F.drawn.states, omega (arith, two_low F c.node-x.ensures c.args.operator c.requires.1, here F), here F)
 
 pub returns-in-Or : goal.returns-in-Or
 returns-in-Or c =
