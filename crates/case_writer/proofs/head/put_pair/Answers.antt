@@ -1,6 +1,5 @@
 -- `case_writer::head::put_pair` meets its contract: a word after a word.
 use Rattle.case_model.proofs.Laying.{laid_after}
-use borrow.Author.Rules.{rules}
 use Rattle.case_writer.proofs.head.put_pair.Goals as goal
 
 pub returns : goal.returns

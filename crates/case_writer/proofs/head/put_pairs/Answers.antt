@@ -1,9 +1,6 @@
 -- `case_writer::head::put_pairs` meets its contract: after i turns the first i pairs are laid.
-use Prim.Native.Nat.{◌-◌}
 use native.Mathlib.Omega.{arith}
-use lib.ListN.{length}
-use Rattle.case_writer.proofs.Pairs.{Pairing, pairing_none, pairing_room, pairing_turn, pairing_all}
-use borrow.Author.Rules.{rules}
+use Rattle.case_writer.proofs.Pairs.{pairing_none, pairing_room, pairing_turn, pairing_all}
 use Rattle.case_writer.proofs.head.put_pairs.Goals as goal
 
 pub loop-i-init : goal.loop-i-init

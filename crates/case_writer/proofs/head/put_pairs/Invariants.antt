@@ -1,9 +1,7 @@
 -- `case_writer::head::put_pairs` meets its contract: after i turns the first i pairs are laid.
 use Prim.Native.Nat.{◌-◌}
-use native.Mathlib.Omega.{arith}
 use lib.ListN.{length}
-use Rattle.case_writer.proofs.Pairs.{Pairing, pairing_none, pairing_room, pairing_turn, pairing_all}
-use borrow.Author.Rules.{rules}
+use Rattle.case_writer.proofs.Pairs.{Pairing}
 use Rattle.case_writer.proofs.head.put_pairs.Given as goal
 
 abbrev pub invariant-loop-i : goal.invariant-loop-i

@@ -1,11 +1,7 @@
 -- `case_writer::runs::put_part` meets its contract: after i turns the first i bytes are laid.
 use mathlib.Core.Path.{refl}
-use Prim.Native.Nat.{◌+◌, ◌-◌, ◌≤◌}
 use native.Mathlib.Omega.{arith}
-use Rattle.case_model.specs.Areas.{Laid}
-use Rattle.case_writer.specs.Parts.{part}
 use Rattle.case_writer.proofs.Parts.{laid_start, laid_byte, laid_part}
-use borrow.Author.Rules.{rules}
 use Rattle.case_writer.proofs.runs.put_part.Goals as goal
 
 pub loop-i-init : goal.loop-i-init
@@ -15,4 +11,4 @@ pub loop-i-preserved : goal.loop-i-preserved
 loop-i-preserved c = (laid_byte _ _ _ c.loop-i.invariant.0, omega arith)
 
 pub returns : goal.returns
-returns c = (laid_part _ _ _ _ c.loop-i.invariant.1 c.loop-i-test.false c.loop-i.invariant.0, refl)
+returns c = record { laid = laid_part _ _ _ _ c.loop-i.invariant.1 c.loop-i-test.false c.loop-i.invariant.0; value = refl }

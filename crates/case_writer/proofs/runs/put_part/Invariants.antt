@@ -1,11 +1,7 @@
 -- `case_writer::runs::put_part` meets its contract: after i turns the first i bytes are laid.
-use mathlib.Core.Path.{refl}
 use Prim.Native.Nat.{◌+◌, ◌-◌, ◌≤◌}
-use native.Mathlib.Omega.{arith}
 use Rattle.case_model.specs.Areas.{Laid}
 use Rattle.case_writer.specs.Parts.{part}
-use Rattle.case_writer.proofs.Parts.{laid_start, laid_byte, laid_part}
-use borrow.Author.Rules.{rules}
 use Rattle.case_writer.proofs.runs.put_part.Given as goal
 
 abbrev pub invariant-loop-i : goal.invariant-loop-i

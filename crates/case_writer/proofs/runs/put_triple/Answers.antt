@@ -1,6 +1,5 @@
 -- `case_writer::runs::put_triple` meets its contract: three bytes, one after the other.
 use Rattle.case_model.proofs.Laying.{laid_after}
-use borrow.Author.Rules.{rules}
 use Rattle.case_writer.proofs.runs.put_triple.Goals as goal
 
 pub returns : goal.returns

@@ -1,6 +1,5 @@
 -- `case_writer::runs::put_word` meets its contract: a byte after a byte.
 use Rattle.case_model.proofs.Laying.{laid_after}
-use borrow.Author.Rules.{rules}
 use Rattle.case_writer.proofs.runs.put_word.Goals as goal
 
 pub returns : goal.returns
