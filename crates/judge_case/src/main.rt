@@ -1,7 +1,7 @@
 // Judges one case from standard input on all its states, and prints which of them hold, or the refusal.
 #![tactic(auto)]
 
-ghost use Rattle.std.specs.Prelude.{◌++◌, ◌≡◌, ◌+◌, ◌≤◌, length};
+ghost use Rattle.std.specs.Prelude.{◌++◌, ◌≡◌, ◌+◌, ◌≤◌, length, IfOk};
 ghost use Rattle.flc.specs.Sets.{has};
 ghost use Rattle.case_model.specs.Case.{read};
 ghost use Rattle.case_model.specs.Run.{every_start};
@@ -12,6 +12,7 @@ ghost use Rattle.judge_case.specs.Printed.{yes_or_no, numeral, line, verdict_lin
 use case_file::{Case, Refusal};
 use case_reader::{all_states, holds, start, start_count, state_count};
 use judge::{Judged, Verdict};
+use std::io::{Error, Read, Write};
 
 // Is every start state in the set?
 fn starts_hold(file: &[u8], set: u16) -> bool
@@ -133,16 +134,31 @@ fn page_of(file: &[u8], work: &mut [u16]) -> Page
     }
 }
 
+// Reads until the buffer is full or the input ends, and tells how many bytes came.
+fn read_full<R: Read>(input: &mut R, buffer: &mut [u8]) -> Result<usize, Error>
+    ensures { IfOk result (λ n. n ≤ length buffer.new) }
+{
+    let mut done = 0;
+    while done < buffer.len() {
+        let count = input.read(&mut buffer[done..])?;
+        if count == 0 {
+            break;
+        }
+        done += count;
+    }
+    Ok(done)
+}
+
 // How many words the program lends judging.
 const WORDS: usize = 32768;
 
-fn main() {
+fn main(rt: HostRuntime) -> Result<(), Error> {
     // The byte past the longest case tells a longer input, which is refused as 1.
     let mut buffer = [0u8; Case::LONGEST + 1];
     let mut work = [0u16; WORDS];
-    let length = io::read_full(0, &mut buffer);
+    let length = read_full(&mut rt.stdin(), &mut buffer)?;
     let page = page_of(&buffer[..length], &mut work);
     let bytes = page.bytes;
     let count = page.length;
-    io::write_all(1, &bytes[..count]);
+    rt.stdout().write_all(&bytes[..count])
 }
