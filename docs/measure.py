@@ -139,7 +139,7 @@ def measure(blocks, tables):
     """Takes the times of these tables, and tells of the machine in these blocks."""
     root = HERE.parent
     before = os.getloadavg()[0]
-    subprocess.run(["rt", "staticlib", "hoidrul"], cwd=root, check=True)
+    subprocess.run(["rt", "lib"], cwd=root / "crates/hoidrul", check=True)
     subprocess.run(["cargo", "build", *CARGO], cwd=root, check=True)
     for what, name in tables:
         subprocess.run(["cargo", "run", *CARGO, "--", what, f"docs/{name}"], cwd=root, check=True)

@@ -1,6 +1,6 @@
-/* Calls every function of hoidrul.h on one case file. From the repository's root, after rt staticlib hoidrul:
+/* Calls every function of hoidrul.h on one case file. From the repository's root, after rt lib in crates/hoidrul:
  *
- *     cc -I include examples/every_entry.c target/staticlib/libhoidrul.a
+ *     cc -I include examples/every_entry.c crates/hoidrul/out/libhoidrul.a
  *     ./a.out cases/two_wheels.case
  *     ./a.out cases/lost_steps_made_up.supplier cases/lost_steps_made_up.kinds
  *

@@ -1,7 +1,7 @@
-//! Links the proved archive, libhoidrul.a, which `rt staticlib hoidrul` makes.
+//! Links the proved archive, libhoidrul.a, which `rt lib` makes in the folder crates/hoidrul.
 //!
 //! It is looked for in the folder named by the environment variable HOIDRUL_LIB_DIR, as an absolute
-//! path or one from this package's folder; if that is not set, in target/staticlib of the
+//! path or one from this package's folder; if that is not set, in crates/hoidrul/out of the
 //! repository. Without an archive, or for a target that no archive is for, the build stops here, for
 //! whatever command, with what to do: a build script cannot tell checking from building, and a
 //! linker's words are no help. Set to nothing, the variable says that no archive is wanted, which
@@ -14,7 +14,7 @@ const WITHOUT: &str = "to check or document without an archive, set HOIDRUL_LIB_
 
 fn main() {
     println!("cargo::rerun-if-env-changed=HOIDRUL_LIB_DIR");
-    let named = env::var_os("HOIDRUL_LIB_DIR").unwrap_or("../../target/staticlib".into());
+    let named = env::var_os("HOIDRUL_LIB_DIR").unwrap_or("../../crates/hoidrul/out".into());
     let package = PathBuf::from(env::var_os("CARGO_MANIFEST_DIR").expect("cargo sets it"));
     let folder = package.join(&named);
     // For the tests. Cargo passes it on to them, so it needs a name of its own.
@@ -29,8 +29,8 @@ fn main() {
         println!("cargo::error=libhoidrul.a is for x86-64 Linux and not for {target} ({WITHOUT})");
     } else if !archive.exists() {
         println!(
-            "cargo::error=there is no {}: run rt staticlib hoidrul in the repository, or name the \
-             archive's folder in HOIDRUL_LIB_DIR ({WITHOUT})",
+            "cargo::error=there is no {}: run rt lib in crates/hoidrul of the repository, or name \
+             the archive's folder in HOIDRUL_LIB_DIR ({WITHOUT})",
             archive.display()
         );
     }

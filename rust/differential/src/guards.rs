@@ -28,7 +28,9 @@ pub struct Edit {
 pub fn crates() -> Vec<String> {
     let list = fs::read_to_string(root().join("crates.txt")).expect("crates.txt");
     let lines = list.lines().filter(|line| !line.starts_with('#'));
-    let names = lines.filter_map(|line| line.split_once(':').map(|(name, _)| name.trim()));
+    let heads = lines.filter_map(|line| line.split_once(':').map(|(head, _)| head));
+    // Behind the name may stand what is made of the crate.
+    let names = heads.filter_map(|head| head.split_whitespace().next());
     names.map(String::from).collect()
 }
 

@@ -15,16 +15,17 @@ use std::time::Duration;
 
 /// What the program prints when these pieces come in on standard input, one after the other.
 fn printed(pieces: &[&[u8]]) -> String {
-    let program = Path::new(env!("CARGO_MANIFEST_DIR")).join("../../target/bin/judge_case");
+    let folder = Path::new(env!("CARGO_MANIFEST_DIR")).join("../../crates/judge_case");
+    let program = folder.join("out/judge_case");
     assert!(
         program.exists(),
-        "target/bin/judge_case is missing: run rt check judge_case"
+        "crates/judge_case/out/judge_case is missing: run rt run </dev/null in crates/judge_case"
     );
     let mut child = Command::new(program)
         .stdin(Stdio::piped())
         .stdout(Stdio::piped())
         .spawn()
-        .expect("target/bin/judge_case starts");
+        .expect("crates/judge_case/out/judge_case starts");
     let mut stdin = child.stdin.take().expect("a pipe");
     for (i, piece) in pieces.iter().enumerate() {
         if i > 0 {

@@ -39,11 +39,11 @@
 //!
 //! # The archive
 //!
-//! The entries are those of the proved archive libhoidrul.a, which `rt staticlib hoidrul` makes. It
-//! is linked from target/staticlib of the repository, or from the folder that the environment
-//! variable `HOIDRUL_LIB_DIR` names at build time: an absolute path, or one from this package's
-//! folder. Set to nothing, it serves `cargo check` and `cargo doc` where there is no archive. An
-//! archive is for x86-64 Linux, and the build stops for any other target.
+//! The entries are those of the proved archive libhoidrul.a, which `rt lib` makes in crates/hoidrul
+//! of the repository. It is linked from crates/hoidrul/out there, or from the folder that the
+//! environment variable `HOIDRUL_LIB_DIR` names at build time: an absolute path, or one from this
+//! package's folder. Set to nothing, it serves `cargo check` and `cargo doc` where there is no
+//! archive. An archive is for x86-64 Linux, and the build stops for any other target.
 //!
 //! Take the binding and the archive of one version. If a newer archive refuses with a number that
 //! this binding does not know, the reason is [`Reason::Unknown`].

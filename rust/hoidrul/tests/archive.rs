@@ -32,7 +32,7 @@ fn a_missing_archive_stops_the_build() {
     let folder = scratch("nowhere");
     let archive = folder.join("libhoidrul.a");
     let line = format!(
-        "there is no {}: run rt staticlib hoidrul",
+        "there is no {}: run rt lib in crates/hoidrul",
         archive.display()
     );
     for command in ["build", "check"] {

@@ -8,7 +8,7 @@ use std::path::PathBuf;
 use std::time::SystemTime;
 
 const LOW: &str = "crates/low/src/lib";
-const PROGRAM: &str = "target/bin/judge_case";
+const PROGRAM: &str = "crates/judge_case/out/judge_case";
 
 /// The calls of rt, and what the script says, in one file.
 #[test]
@@ -19,8 +19,11 @@ fn each_crate_is_said_first() {
     let calls = fs::read_to_string(repository.root.join("calls")).expect("calls");
     let lines: Vec<_> = calls.lines().filter(|line| *line != "version").collect();
     let mut expected = Vec::new();
-    for (said, name) in SAID.lines().zip(["low", "middle", "judge_case"]) {
-        expected.extend([said.to_string(), format!("check {name}")]);
+    for (said, call) in SAID
+        .lines()
+        .zip(["lib low", "lib middle", "run judge_case"])
+    {
+        expected.extend([said.to_string(), call.to_string()]);
     }
     assert_eq!(lines, expected);
     let log = repository.root.join("target/judge.log");
@@ -52,6 +55,7 @@ fn each_change_is_checked() {
         "crates/middle/src/added",
         "crates/low/specs/Added",
         "crates/low/proofs/Added",
+        "crates/low/src/out/added",
         "crates/judge_case/stdin",
         "crates/judge_case/stdout",
     ] {
@@ -63,10 +67,14 @@ fn each_change_is_checked() {
     repository.checks(2);
     repository.put("version", "kit 2");
     repository.checks(2);
-    let lines = "low:\nmiddle: low\njudge_case: middle io\n";
+    let lines = "low:\nmiddle: low\njudge_case: middle, io # last\nhigh staticlib: low\n";
     repository.put("crates.txt", lines);
     repository.checks(2);
-    for other in ["crates/high/src/lib", "crates/low/must-fail/other.edit"] {
+    for other in [
+        "crates/high/src/lib",
+        "crates/low/must-fail/other.edit",
+        "crates/low/out/other",
+    ] {
         repository.put(other, "changed");
         repository.answers(2);
     }
@@ -79,7 +87,7 @@ fn the_crates_of_the_list() {
     repository.checks(1);
     repository.put(
         "crates.txt",
-        "judge_case :high low\nhigh: low\nlow:# none\n",
+        "judge_case status=0 :high low\nhigh: low\nlow:# none\n",
     );
     assert_eq!(repository.call().print, answer(1));
     assert_eq!(repository.checked(), ["low", "high", "judge_case"]);
@@ -112,25 +120,34 @@ fn put_back() {
     let repository = Repository::new("put back");
     repository.checks(1);
     repository.put(LOW, "2");
-    let by_hand = repository.wrapper.run("rt check judge_case 2>&1");
+    let by_hand = repository
+        .wrapper
+        .run("cd crates/judge_case && rt run </dev/null 2>&1");
     assert_eq!(by_hand.status, Some(0));
     repository.put(LOW, "1");
     repository.checked();
     repository.checks(1);
 }
 
-/// Edits that are undone while rt runs: rt's stamp would hold for the sources, and its program not.
+/// Edits that are undone while rt runs: rt's stamps would hold for the sources, and what it built not.
 #[test]
 fn changed_while_checked() {
     let repository = Repository::new("meanwhile");
-    let edit = format!("stamp=$(cat version crates/*/src/*); printf 7 >{LOW}");
+    let edit = format!("printf 7 >{LOW}");
     let built = format!("printf '#!/bin/sh\\nprintf \"{}\"' >{PROGRAM}", "junk");
-    let undo =
-        format!("chmod +x {PROGRAM}; echo \"$stamp\" >target/stamp/judge_case; printf 1 >{LOW}");
-    let during = format!("mkdir -p target/bin target/stamp; {edit}; {built}; {undo}");
+    let undo = format!("chmod +x {PROGRAM}; printf 1 >{LOW}; stamp >{PROGRAM}.stamp");
+    let during = format!("mkdir -p crates/judge_case/out; {edit}; {built}; {undo}");
     repository.put("during judge_case", &during);
     repository.call().ends_in_trouble("changed");
     repository.remove("during judge_case");
+    repository.checked();
+    repository.checks(1);
+    let built = "library low; printf 7 >crates/low/out/rlib/lib";
+    let during = format!("{edit}; printf 1 >{LOW}; {built}");
+    repository.put("during low", &during);
+    repository.put("crates/judge_case/src/main", "more");
+    repository.call().ends_in_trouble("changed");
+    repository.remove("during low");
     repository.checked();
     repository.checks(1);
     let come_and_gone = "touch crates/middle/src/gone; rm crates/middle/src/gone";

@@ -6,8 +6,8 @@ use hoidrul::{Reason, Refusal};
 /// A repository whose rt builds a program that does this.
 fn repository(name: &str, does: &str) -> Repository {
     let repository = Repository::new(name);
-    let build = "cat program >target/bin/judge_case; chmod +x target/bin/judge_case; exit 0";
-    let during = format!("mkdir -p target/bin; {build}");
+    let build = "cat program >$program; chmod +x $program; stamp >$program.stamp";
+    let during = format!("mkdir -p crates/judge_case/out; {build}");
     repository.put("during judge_case", &during);
     repository.put("program", &format!("#!/bin/sh\n{does}\n"));
     repository

@@ -190,7 +190,7 @@ fn a_call_that_waits() {
     let text = "judge </dev/null >print 2>/dev/null";
     let mut first = Call::begin(&repository.wrapper, "", text);
     until("a check", || {
-        text_of("calls").contains("check middle").then_some(())
+        text_of("calls").contains("lib middle").then_some(())
     });
     let (signals, by) = signals();
     for shell in all_shells() {

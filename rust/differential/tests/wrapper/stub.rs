@@ -1,28 +1,55 @@
 //! A repository of made-up crates with a stub for rt.
-use crate::calls::{folder, script, Outcome, Wrapper};
+use crate::calls::{script, Outcome, Wrapper};
 use std::env;
 use std::ffi::OsString;
 use std::fs;
 use std::io::Write;
 use std::path::PathBuf;
-use std::process::{Command, Stdio};
+use std::process::{self, Command, Stdio};
+use std::thread::panicking;
 
-/// Says that it was called, and what was left to it on standard input. As rt, it trusts its stamp and
-/// does not look at the program. The program prints as many rounds as the crate `low` says.
+/// Says that it was called, in which crate's folder, and what was left to it on standard input. As rt,
+/// it trusts its stamps: where one is there for the sources as they are, and for the program as it is,
+/// it builds nothing. A library is a copy of its source. The program, which is run once it is built, prints
+/// as many rounds as the library `low` says.
 pub const RT: &str = r#"#!/bin/sh
-echo "$*$(cat)" >>calls
-[ "$1" = check ] || exec cat version
-echo "rt at $2"
+input=$(cat)
+if [ "$1" = version ]; then
+    echo "version$input" >>calls
+    exec cat version
+fi
+name=${PWD##*/}
+cd ../..
+echo "$1 $name$input" >>calls
+echo "rt at $name"
 echo "rt complains" >&2
-if [ -e "during $2" ]; then . "./during $2"; fi
-[ ! -e "bad $2" ] || exit 1
-[ "$2" = judge_case ] || exit 0
-stamp=$(cat version crates/*/src/*)
-if [ "$stamp" = "$(cat target/stamp/judge_case)" ]; then exit 0; fi
-mkdir -p target/bin target/stamp
-printf '#!/bin/sh\nprintf "states 1\\nrounds %s\\n0 yes\\nstarts yes\\n"\n' "$(cat crates/low/src/lib)" >target/bin/judge_case
-chmod +x target/bin/judge_case
-echo "$stamp" >target/stamp/judge_case
+library() {
+    out=crates/$1/out/rlib
+    sources=$(cat version crates/$1/src/*)
+    if [ "$sources" = "$(cat "$out/stamp" 2>/dev/null)" ]; then return; fi
+    mkdir -p $out
+    cat crates/$1/src/lib >$out/lib
+    echo "$sources" >$out/stamp
+}
+program=crates/judge_case/out/judge_case
+stamp() { cat version crates/*/src/* $program 2>/dev/null; }
+if [ -e "during $name" ]; then . "./during $name"; fi
+[ ! -e "bad $name" ] || exit 1
+if [ "$1" = lib ]; then
+    library "$name"
+    exit
+fi
+for source in crates/*/src/lib; do
+    below=${source%/src/lib}
+    library "${below##*/}"
+done
+if [ "$(stamp)" != "$(cat $program.stamp 2>/dev/null)" ]; then
+    mkdir -p "${program%/*}"
+    printf '#!/bin/sh\nprintf "states 1\\nrounds %s\\n0 yes\\nstarts yes\\n"\n' "$(cat crates/low/out/rlib/lib)" >$program
+    chmod +x $program
+    stamp >$program.stamp
+fi
+cd "crates/$name" && exec out/judge_case
 "#;
 
 /// A repository of made-up crates. The last does not belong to the program. No file has a name that rt,
@@ -33,8 +60,9 @@ pub struct Repository {
 }
 
 impl Repository {
+    /// Outside the real repository, in which rt would take its crates.txt for one too many.
     pub fn new(name: &str) -> Repository {
-        let root = folder(name);
+        let root = env::temp_dir().join(format!("judge {name} {}", process::id()));
         for part in ["bin", "temporary", "crates/low/must-fail"] {
             fs::create_dir_all(root.join(part)).expect("a folder");
         }
@@ -98,11 +126,17 @@ impl Repository {
         outcome
     }
 
-    /// The crates that rt was asked to check since this was last asked.
+    /// The crates that rt was asked to prove and build since this was last asked.
     pub fn checked(&self) -> Vec<String> {
         let calls = fs::read_to_string(self.root.join("calls")).expect("calls");
         self.put("calls", "");
-        let checks = calls.lines().filter_map(|call| call.strip_prefix("check "));
+        let checks = calls
+            .lines()
+            .filter_map(|call| match call.split_once(' ')? {
+                ("lib", name) if name != "judge_case" => Some(name),
+                ("run", name) if name == "judge_case" => Some(name),
+                _ => panic!("a strange call: {call}"),
+            });
         checks.map(String::from).collect()
     }
 
@@ -118,6 +152,13 @@ impl Repository {
     pub fn answers(&self, rounds: usize) {
         self.call().answers(&answer(rounds), "");
         assert!(self.checked().is_empty());
+    }
+}
+
+impl Drop for Repository {
+    fn drop(&mut self) {
+        let removed = fs::remove_dir_all(&self.root);
+        assert!(removed.is_ok() || panicking(), "{removed:?}");
     }
 }
 
