@@ -139,6 +139,7 @@ def measure(blocks, tables):
     """Takes the times of these tables, and tells of the machine in these blocks."""
     root = HERE.parent
     before = os.getloadavg()[0]
+    kit = subprocess.run(["rt", "version"], cwd=root, check=True, capture_output=True, text=True).stdout.split()[0]
     subprocess.run(["rt", "lib"], cwd=root / "crates/hoidrul", check=True)
     subprocess.run(["cargo", "build", *CARGO], cwd=root, check=True)
     for what, name in tables:
@@ -146,7 +147,7 @@ def measure(blocks, tables):
     after = os.getloadavg()[0]
     load = f"load average {before:.1f} before the run, and {after:.1f} after it with the run's own 1."
     for block in blocks:
-        fill(block, [f"{processor()}, {os.cpu_count()} cores;", load])
+        fill(block, [f"{processor()}, {os.cpu_count()} cores; the archive built by `{kit}`;", load])
 
 
 if __name__ == "__main__":

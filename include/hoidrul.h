@@ -15,7 +15,7 @@
  * Stack. Every call fits in a thread with HOIDRUL_STACK bytes of stack. Threads of 49 KiB were enough in tests, and
  * threads of 48 KiB were not: below its caller's frame hoidrul_regular took 44,984 bytes, hoidrul_judge_kinds, which
  * copies the file, 20,072, hoidrul_judge 13,368 and the other functions at most 5,944. Without hoidrul_regular 24 KiB
- * were enough, and 23 KiB were not.
+ * were enough, and 23 KiB were not. These figures are of an archive that an older kit built, rattle-kit-5b-plain.
  *
  * Time. Judging can take hours: a binder takes up to n * 2^n rounds on n states, of a regular rule n, and nested binders
  * of alternating kinds multiply theirs. Only ending its thread or process stops a call. The other functions end within

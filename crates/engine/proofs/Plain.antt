@@ -18,7 +18,7 @@ use Rattle.flc.proofs.Tests.{both_mk}
 use Rattle.flc.proofs.Meanings.{mean_small, mean_or, mean_and}
 use Rattle.flc.proofs.Unfolding.{formula_at_node}
 use Rattle.case_model.specs.Limits.{variables}
-use Rattle.case_model.specs.Kinds.{fits, kinds, kind_at, node_holds}
+use Rattle.case_model.specs.Kinds.{fits, kind_at, node_holds}
 use Rattle.case_model.specs.Areas.{Filled}
 use Rattle.case_model.proofs.Tests.{is_true, and_l, and_r}
 use Rattle.case_model.proofs.Nodes.{Fits, fits-constant, fits_variable, fits_pair, fits_binder, fits_bind}

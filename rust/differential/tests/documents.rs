@@ -2,7 +2,7 @@
 use differential::drives::read;
 use differential::guards::{clause_of, crates, edits, is_clause, root, with_guards, WIDTH};
 use differential::printed::wanted;
-use std::collections::BTreeSet;
+use std::collections::{BTreeMap, BTreeSet};
 use std::fs;
 use std::path::{Path, PathBuf};
 use std::process::Command;
@@ -116,17 +116,27 @@ fn each_edit_applies() {
     for krate in entries(&root().join("crates")) {
         for path in entries(&krate.join("must-fail")) {
             let edit = fs::read_to_string(&path).expect("an edit");
-            let named = |mark| edit.lines().filter_map(move |line| line.strip_prefix(mark));
-            let file = krate.join(named("file: ").next().expect("a file"));
-            let mut text = fs::read_to_string(file).expect("its file");
-            let (olds, news) = (named("old: "), named("new:"));
-            assert_eq!(olds.clone().count(), news.clone().count(), "{path:?}");
-            assert!(olds.clone().count() > 0, "{path:?}");
-            for (old, new) in olds.zip(news) {
-                let (old, new) = (old.trim(), new.trim());
-                assert_eq!(text.matches(old).count(), 1, "{old}: {path:?}");
-                text = text.replace(old, new);
+            let mut texts = BTreeMap::new();
+            let (mut file, mut old) = (None, None);
+            let mut pairs = 0;
+            for line in edit.lines() {
+                if let Some(name) = line.strip_prefix("file: ") {
+                    file = Some(krate.join(name.trim()));
+                } else if let Some(text) = line.strip_prefix("old: ") {
+                    assert_eq!(old.replace(text), None, "{path:?}");
+                } else if let Some(new) = line.strip_prefix("new:") {
+                    let new = new.strip_prefix(' ').unwrap_or(new);
+                    let old = old.take().expect("an old text");
+                    let file = file.clone().expect("a file");
+                    let text = texts
+                        .entry(file)
+                        .or_insert_with_key(|file| fs::read_to_string(file).expect("its file"));
+                    assert_eq!(text.matches(old).count(), 1, "{old}: {path:?}");
+                    *text = text.replace(old, new);
+                    pairs += 1;
+                }
             }
+            assert!(old.is_none() && pairs > 0, "{path:?}");
             edits += 1;
         }
     }

@@ -199,6 +199,15 @@ fn not_proved() {
     repository.checked();
     repository.put(LOW, "1");
     repository.answers(1);
+    repository.remove("bad low");
+    repository.put("bad judge_case", "");
+    repository.put(LOW, "2");
+    repository
+        .call()
+        .ends_in_trouble("judge_case is not proved");
+    repository.checked();
+    repository.put(LOW, "1");
+    repository.answers(1);
 }
 
 /// A rt that succeeds and builds nothing, and one that has no version.

@@ -52,17 +52,17 @@ fi
 cd "crates/$name" && exec out/judge_case
 "#;
 
-/// A repository of made-up crates. The last does not belong to the program. No file has a name that rt,
-/// run on the real repository, would take for one of its own.
+/// A repository of made-up crates. The last does not belong to the program. It is outside the real
+/// repository, where rt would take its crates.txt for one too many, and is removed in the end.
 pub struct Repository {
     pub root: PathBuf,
     pub wrapper: Wrapper,
 }
 
 impl Repository {
-    /// Outside the real repository, in which rt would take its crates.txt for one too many.
     pub fn new(name: &str) -> Repository {
-        let root = env::temp_dir().join(format!("judge {name} {}", process::id()));
+        let top = env::temp_dir().canonicalize().expect("a folder");
+        let root = top.join(format!("judge {name} {}", process::id()));
         for part in ["bin", "temporary", "crates/low/must-fail"] {
             fs::create_dir_all(root.join(part)).expect("a folder");
         }

@@ -1,0 +1,161 @@
+-- `engine::refresh::refresh`, `compute`, `rounds` and `round` meet their contracts. What each step needs stands in Refreshing, Settling, Iterating and
+-- Turns; here the places of the code are tied to it.
+use Prim.Native.Nat.{ℕ, suc, ◌+◌, ◌-◌, ◌*◌, ◌≤◌}
+use mathlib.Core.List.{List}
+use mathlib.Core.Path.{sym, ap, ◌∙◌, subst}
+use native.Mathlib.Omega.{arith}
+use lib.Bits.{bit_or}
+use lib.ListN.{length}
+use Rattle.case_plan.specs.Plans.{Plan, decoded}
+use Rattle.case_plan.proofs.KnownNodes.{known, other_kind}
+use Rattle.case_plan.proofs.Scopes.{scope_small}
+use Rattle.tables.proofs.Sizes.{size_some}
+use Rattle.engine.specs.declared.refresh.Binder.{Binder}
+use Rattle.engine.specs.Computing.{Ready, Refreshable, Refreshed, Iterable}
+use Rattle.engine.proofs.Frames.{apart}
+use Rattle.engine.proofs.Refreshing.{not_zero, refresh_none, last_there, refresh_lower, skip_out, skip_old, computable, one_more}
+use Rattle.engine.proofs.Refreshing.{fillable, computed_plain}
+use Rattle.engine.proofs.Turns.{binds_low, binder_here, body_under, round_refreshable, rounded}
+use Rattle.engine.proofs.Iterating.{turning_start, turning_roundable, turning_next, iterated_still, iterated_most}
+use Rattle.engine.proofs.Settling.{limit_small, iterable, computed_binder}
+use Rattle.engine.proofs.refresh.+compute_refresh_round_rounds.Goals as goal
+
+-- ---- compute
+-- the block of node j has room
+room : {p : Plan} {w : List ℕ} {j act : ℕ} → Ready p w (suc j) act → (1 ≤ p.size) × (p.size ≤ 65536) × (j * p.size + p.size ≤ length w)
+room {p} {j = j} R =
+    let (some, most) = size_some R.sound.sized in
+    (some, most, omega (arith, apart p.size j p.count R.below, R.room))
+
+pub compute-node-x-requires : goal.compute-node-x-requires
+compute-node-x-requires t c = omega (arith, c.requires.ready.below, c.requires.ready.sound.rule.most)
+
+pub compute-fill-requires : goal.compute-fill-requires
+compute-fill-requires t c =
+    fillable c.requires (other_kind (decoded c.args.plan.now) c.args.j c.node-x.ensures c.kind_of-kind.result c.kind_of-kind.ensures c.in_default.not-Binder)
+
+pub compute-returns-in_default : goal.compute-returns-in_default
+compute-returns-in_default t c =
+    computed_plain c.requires
+    (other_kind (decoded c.args.plan.now) c.args.j c.node-x.ensures c.kind_of-kind.result c.kind_of-kind.ensures c.in_default.not-Binder) c.fill.ensures
+
+pub compute-overflow_mul-j : goal.compute-overflow_mul-j
+compute-overflow_mul-j t c = omega (arith, room c.requires.ready, c.well_formed)
+
+pub compute-begin-requires : goal.compute-begin-requires
+compute-begin-requires t c = room c.requires.ready
+
+pub compute-overflow_add-most : goal.compute-overflow_add-most
+compute-overflow_add-most t c = omega (arith, limit_small c.requires.ready.sound)
+
+pub compute-rounds-requires : goal.compute-rounds-requires
+compute-rounds-requires t c =
+    let p = decoded c.args.plan.now in
+    let x = c.node-x.result in
+    let B : Binder = record { node = c.args.j; variable = x.1; body = x.2 } in (
+      omega (arith, c.decreases),
+      subst (Iterable p c.begin.new.work B c.args.act) (sym c.direction.ensures)
+          (iterable B c.in-Binder.least c.requires (known p c.args.j c.node-x.ensures c.kind_of-kind.ensures c.in-Binder.is) c.begin.ensures),
+    )
+
+pub compute-returns : goal.compute-returns
+compute-returns t c =
+    let p = decoded c.args.plan.now in
+    let x = c.node-x.result in
+    let B : Binder = record { node = c.args.j; variable = x.1; body = x.2 } in
+    computed_binder B c.in-Binder.least c.requires (known p c.args.j c.node-x.ensures c.kind_of-kind.ensures c.in-Binder.is)
+    c.begin.ensures (omega (arith, c.requires.ready.sound.limit)) c.rounds.ensures
+
+-- ---- refresh
+pub refresh-returns-then-k-eq0 : goal.refresh-returns-then-k-eq0
+refresh-returns-then-k-eq0 t c = refresh_none c.args.old c.args.act c.if-k-eq0.true
+
+pub refresh-refresh-requires : goal.refresh-refresh-requires
+refresh-refresh-requires t c =
+    let e = not_zero c.args.k c.if-k-eq0.false in
+    (omega (arith, c.decreases, e), refresh_lower (c.args.k - 1) c.requires e)
+
+pub refresh-scope-u-requires : goal.refresh-scope-u-requires
+refresh-scope-u-requires t c =
+    let R = c.requires in
+    let j = c.args.k - 1 in
+    let there = last_there j R (not_zero c.args.k c.if-k-eq0.false) in
+    (omega (arith, there, R.ready.sound.rule.most), scope_small R.ready.sound.rule j there)
+
+pub refresh-returns-then-in_act-act : goal.refresh-returns-then-in_act-act
+refresh-returns-then-in_act-act t c =
+    skip_out (c.args.k - 1) c.requires (not_zero c.args.k c.if-k-eq0.false) c.refresh.ensures
+    (λ z. c.if-in_act-act.true (ap (λ u. bit_or u c.args.act) c.scope-u.ensures ∙ z))
+
+pub refresh-returns-then-in_old-old : goal.refresh-returns-then-in_old-old
+refresh-returns-then-in_old-old t c =
+    skip_old (c.args.k - 1) c.requires (not_zero c.args.k c.if-k-eq0.false) c.refresh.ensures
+    (ap (λ u. bit_or u c.args.old) (sym c.scope-u.ensures) ∙ c.if-in_old-old.true)
+
+pub refresh-compute-requires : goal.refresh-compute-requires
+refresh-compute-requires t c =
+    let e = not_zero c.args.k c.if-k-eq0.false in (
+      omega (arith, c.decreases, e),
+      computable (c.args.k - 1) c.requires e c.refresh.ensures
+          (ap (λ u. bit_or u c.args.act) (sym c.scope-u.ensures) ∙ c.if-in_act-act.false),
+    )
+
+pub refresh-returns : goal.refresh-returns
+refresh-returns t c =
+    let same = c.scope-u.ensures in
+    one_more (c.args.k - 1) c.requires (not_zero c.args.k c.if-k-eq0.false) c.refresh.ensures
+    (ap (λ u. bit_or u c.args.act) (sym same) ∙ c.if-in_act-act.false)
+    (λ z. c.if-in_old-old.false (ap (λ u. bit_or u c.args.old) same ∙ z))
+    c.compute.ensures
+
+-- ---- round
+pub round-variable-requires : goal.round-variable-requires
+round-variable-requires t c = (binds_low c.requires.binds).0
+
+pub round-refresh-requires : goal.round-refresh-requires
+round-refresh-requires t c =
+    let x = c.args.x in (
+      omega (arith, c.decreases),
+      subst (λ m. Refreshable (decoded c.args.plan.now) c.args.work.now x.node c.args.act (bit_or c.args.act m) c.args.moved)
+          (sym c.variable.ensures) (round_refreshable c.requires),
+    )
+
+pub round-overflow_mul-x : goal.round-overflow_mul-x
+round-overflow_mul-x t c =
+    let B = c.requires.binds in
+    omega (arith, body_under B, binder_here B, c.well_formed)
+
+pub round-overflow_mul-j : goal.round-overflow_mul-j
+round-overflow_mul-j t c = omega (arith, binder_here c.requires.binds, c.well_formed)
+
+pub round-advance-requires : goal.round-advance-requires
+round-advance-requires t c =
+    let B = c.requires.binds in
+    (body_under B, omega (arith, binder_here B, c.refresh.ensures.kept.long))
+
+pub round-returns : goal.round-returns
+round-returns t c =
+    let x = c.args.x in
+    rounded c.requires
+    (subst (λ m. Refreshed (decoded c.args.plan.now) c.args.work.now c.refresh.new.work x.node c.args.act (bit_or c.args.act m))
+    c.variable.ensures c.refresh.ensures)
+    c.advance.ensures
+
+-- ---- rounds
+pub rounds-loop-r-init : goal.rounds-loop-r-init
+rounds-loop-r-init t c = turning_start c.args.most c.requires
+
+pub rounds-round-change-requires : goal.rounds-round-change-requires
+rounds-round-change-requires t c =
+    (omega (arith, c.decreases), turning_roundable c.args.most c.requires c.loop-r.invariant)
+
+pub rounds-returns-then-change-eq0 : goal.rounds-returns-then-change-eq0
+rounds-returns-then-change-eq0 t c =
+    iterated_still c.args.most c.requires c.loop-r.invariant c.round-change.ensures c.if-change-eq0.true
+
+pub rounds-loop-r-preserved : goal.rounds-loop-r-preserved
+rounds-loop-r-preserved t c =
+    turning_next c.args.most c.requires c.loop-r.invariant c.round-change.ensures (omega (arith, c.loop-r-test.true)) c.if-change-eq0.false
+
+pub rounds-returns : goal.rounds-returns
+rounds-returns t c = iterated_most c.args.most c.requires c.loop-r.invariant (omega (arith, c.loop-r-test.false))

@@ -1,0 +1,10 @@
+-- `regular_sets::bytes::union` meets its contract: the loop stores one byte a turn, from lower ones.
+use lib.Bits.{bit_or}
+use Rattle.case_model.proofs.Filling.{Filling}
+use Rattle.regular_model.specs.SetBytes.{byte_of}
+use Rattle.regular_model.specs.HeldSets.{held_at}
+use Rattle.regular_sets.proofs.bytes.union.Given as goal
+
+abbrev pub invariant-loop-i : goal.invariant-loop-i
+invariant-loop-i l =
+    Filling l.initial.work l.work l.c 32 l.i (byte_of (bit_or (held_at l.initial.work l.a) (held_at l.initial.work l.b)))
