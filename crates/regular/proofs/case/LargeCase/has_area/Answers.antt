@@ -5,8 +5,7 @@ use native.Mathlib.Decide.{dec_lt}
 use native.Mathlib.Omega.{arith}
 use borrow.Author.Tests.{le-leb, lt-leb}
 use lib.Dec.{leb}
-use Rattle.regular.proofs.case.LargeCase.has_area.Statement.{statement}
-use Rattle.regular.proofs.case.LargeCase.has_area.Tie as tie
+use Rattle.regular.proofs.case.LargeCase.has_area.Goals as goal
 
 blocks-fit : (m bytes : ℕ) → leb m (bytes / 64) ≡ leb (64 * m) bytes
 blocks-fit m bytes = elim (dec_lt (bytes / 64) m) [
@@ -14,8 +13,5 @@ blocks-fit m bytes = elim (dec_lt (bytes / 64) m) [
   | yes h ↦ rw (lt-leb m (bytes / 64) h, lt-leb (64 * m) bytes (omega arith))
 ]
 
-returns : tie.Need-returns
-returns c = let a = c.before.args in blocks-fit a.self.counts.nodes a.bytes
-
-pub has-area-spec : {M : Type 1} → statement M
-has-area-spec = tie.close (tie.spec returns)
+pub returns : goal.returns
+returns c = let a = c.args in blocks-fit a.self.counts.nodes a.bytes
