@@ -1,27 +1,20 @@
 -- `regular::entry::regular` meets its contract: a refusal of vetting is the reply, and else the case is handed on.
-use mathlib.Core.Path.{◌≡◌, refl, sym, ap, ◌∙◌}
+use mathlib.Core.Path.{◌≡◌, sym, ap, ◌∙◌}
 use lib.ListN.{length}
 use Rattle.case_file.specs.EnumNumbers.{number}
 use Rattle.case_file.specs.declared.reason.Refusal.{Refusal}
 use Rattle.case_model.specs.Replies.{refuses}
 use Rattle.case_model.proofs.Replying.{accepts, refused_too}
 use Rattle.regular_model.specs.Judging.{large, judging_regular}
-use Rattle.regular.specs.declared.case.LargeCase.{LargeCase}
-use Rattle.regular.specs.declared.case.LargeChecked.{LargeChecked}
-use Rattle.regular.specs.declared.case.LargeChecked.TheVariants as checked
 use Rattle.regular.specs.EnumNumbers.{checked_reply}
 use Rattle.regular.proofs.Replying.{refuses_so}
 use Rattle.regular.proofs.entry.regular.Goals as goal
 
--- what is no case is refused
-refused_one : (k : LargeChecked) → ((x : LargeCase) → k ≡ checked.Case x → ⊥) → (r : Refusal) × (k ≡ checked.Refused r)
-refused_one (checked.Case x) n = absurd (n x refl)
-refused_one (checked.Refused r) n = (r, refl)
-
 pub returns-in_default : goal.returns-in_default
 unfolding judging_regular
 returns-in_default c =
-    let (r, e) = refused_one c.new-checked.result c.in_default.not-Case in
+    let r = c.in_default.field-0 in
+    let e = c.in_default.is in
     let a = c.args in
     let refused = ap (λ (r : Refusal). refuses (number r.reason) r.place) (c.refusal.ensures r e) in
     let judged : judging_regular a.file.now (length a.work.now) (length a.out.now) ≡ refuses (number r.reason) r.place =
