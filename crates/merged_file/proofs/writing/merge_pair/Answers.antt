@@ -31,7 +31,7 @@ merged_starts-set-requires c = starts_small c.requires
 
 pub overflow_mul-steps : goal.overflow_mul-steps
 overflow_mul-steps c =
-    omega (arith, order_few (relation c.merged_rows-rows.result) 2048)
+    omega (arith, order_few)
 
 pub overflow_add-all : goal.overflow_add-all
 overflow_add-all c =
