@@ -1,0 +1,11 @@
+-- `hoidrul::count_word` meets its contract, by cases on the answer.
+use mathlib.Core.Path.{subst}
+use Rattle.case_file.specs.EnumNumbers.{written_reply}
+use Rattle.hoidrul.specs.Packing.{Fits, Short}
+use Rattle.hoidrul.proofs.count_word.Goals as goal
+
+pub refused-requires : goal.refused-requires
+refused-requires c = subst (λ x. Fits Short (written_reply x)) c.in-Refused.is c.requires
+
+pub returns-in-Refused : goal.returns-in-Refused
+returns-in-Refused c = rw c.in-Refused.is c.refused.ensures
