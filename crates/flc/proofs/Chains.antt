@@ -4,14 +4,12 @@ use Prim.Native.Nat.{ℕ, zero, suc, ◌+◌, ◌≤◌, ◌<◌}
 use native.Mathlib.Decide.{ℕ_discrete}
 use native.Mathlib.Omega.{arith}
 use mathlib.Core.Bool.{Bool, true, false, ◌&&◌, ◌||◌}
-use mathlib.Core.List.{List}
 use mathlib.Core.Path.{◌≡◌, refl, sym, ap, ◌∙◌}
 use denote.Param.Members.{Mut}
 use denote.Ref.{Bor}
-use Rattle.std.specs.Bool.{⊤}
 use Rattle.std.specs.Fn.{Called, CalledAt}
-use Rattle.std.specs.Iterator.{YieldsThen}
-use Rattle.std.specs.List.{FoldsTo, list_all, list_any, range_with_len}
+use Rattle.std.specs.Iterator.{ChecksAll, ChecksAny, FindsItem}
+use Rattle.std.specs.List.{list_all, list_any, range_with_len}
 use Rattle.std.specs.Option.{MatchOption, unwrap_or}
 use Rattle.std.specs.declared.option.Option.{Option}
 use Rattle.std.specs.declared.option.Option.TheVariants.{None, Some}
@@ -63,13 +61,13 @@ from_zero p i = let e : 0 + i ≡ i = omega arith in ap p e
 
 module _ {F : Type 0} {g : Mut F (ℕ × Unit {0}) Bool} {u : Range ℕ} {f : F} (r : Bool) (n : ℕ) (p : ℕ → Bool) where
   pub all_below
-      : (xs : List ℕ) × (o : Option ℕ) × (j : F) × YieldsThen nat_range_steps (record { start = 0; end = n }) xs o u × FoldsTo (λ p x q. Called g p (x, tt) true q) f xs j × MatchOption o (r ≡ true) (λ x. (r ≡ false) × ((h : F) × Called g j (x, tt) false h))
+      : ChecksAll nat_range_steps g (record { start = 0; end = n }) f r u
       → ((x : ℕ) (b : Bool) (q : F) → Called g f (x, tt) b q → (q ≡ f) × (b ≡ p x)) → r ≡ for_all n p
   all_below ran call =
       all_from_yields_List p u f r ran (YieldsList-from_range 0 n n refl (omega arith)) call ∙ all_range p 0 n ∙ ap (for_all n) (λ j i. from_zero p i j)
 
   pub any_below
-      : (xs : List ℕ) × (o : Option ℕ) × (j : F) × YieldsThen nat_range_steps (record { start = 0; end = n }) xs o u × FoldsTo (λ p x q. Called g p (x, tt) false q) f xs j × MatchOption o (r ≡ false) (λ x. (r ≡ true) × ((h : F) × Called g j (x, tt) true h))
+      : ChecksAny nat_range_steps g (record { start = 0; end = n }) f r u
       → ((x : ℕ) (b : Bool) (q : F) → Called g f (x, tt) b q → (q ≡ f) × (b ≡ p x)) → r ≡ for_some n p
   any_below ran call =
       any_from_yields_List p u f r ran (YieldsList-from_range 0 n n refl (omega arith)) call ∙ some_range p 0 n ∙ ap (for_some n) (λ j i. from_zero p i j)
@@ -92,7 +90,7 @@ found n p None h = sym (first_at p 0 n n (omega arith) (omega arith) h (λ l. ab
 found n p (Some i) h = sym (first_at p 0 n i h.0 (omega (arith, h.1)) h.3 (λ l. h.2))
 
 pub first_below : {F : Type 0} {g : Mut F (Bor ℕ × Unit {0}) Bool} (u : Range ℕ) {f : F} (r : Option ℕ) (n : ℕ) (p : ℕ → Bool)
-    → (xs : List ℕ) × (j : F) × YieldsThen nat_range_steps (record { start = 0; end = n }) xs r u × FoldsTo (λ p x q. CalledAt g p x false q) f xs j × MatchOption r ⊤ (λ x. (h : F) × CalledAt g j x true h)
+    → FindsItem nat_range_steps g (record { start = 0; end = n }) f r u
     → ((x : ℕ) (b : Bool) (q : F) → CalledAt g f x b q → (q ≡ f) × (b ≡ p x)) → unwrap_or r n ≡ first p 0 n
 first_below u {f = f} r n p ran call =
     found n p r (first_from_Range (record { start = 0; end = n }) u f r (λ k. p k ≡ true) (λ k. p k ≡ false) ran
