@@ -7,14 +7,7 @@ ghost use Rattle.case_plan.specs.Plans.{nothing, scope_of};
 ghost use Rattle.case_plan.specs.Parts.{NodesOf, BindersOf, Binders, nodes_in, labelled};
 
 use crate::plans::{EVERY, UNREACHED};
-use case_reader::{Triple, is_binder, label};
-
-// Is i in the set?
-fn has(set: u64, i: usize) -> bool
-    ensures { result ≡ has set i }
-{
-    i < 64 && (set >> i) % 2 == 1
-}
+use case_reader::{Triple, has, is_binder, label};
 
 // Kind and operands of each node, over nothing: in place, since they are long to copy.
 pub(crate) fn put_nodes(nodes: &mut [Triple; 64], file: &[u8], count: usize)
