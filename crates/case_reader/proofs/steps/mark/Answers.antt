@@ -4,4 +4,4 @@ use Rattle.case_reader.proofs.Marking.{marked_by}
 use Rattle.case_reader.proofs.steps.mark.Goals as goal
 
 pub returns : goal.returns
-returns c = marked_by c.args.rows (triple c.args.x) c.row_of-at.ensures c.bit_of-bit.ensures
+returns c = marked_by c.args.rows.now (triple c.args.x) c.row_of.ensures c.bit_of.ensures
