@@ -9,7 +9,7 @@ ghost use Rattle.regular_sets.specs.Views.{label_atom};
 use crate::bytes::agrees;
 use crate::drive::Drive;
 use crate::members::store;
-use case_reader::label;
+use case_reader::{has, label};
 
 impl Drive<'_> {
     // Has the label of state s proposition p, or with the flag false: has it not? Of no state, no.
@@ -17,7 +17,7 @@ impl Drive<'_> {
         requires { p < 8 }
         ensures { result ≡ has (mean_atom (table (read self.now.file.now)) (label_atom with p) 0) s }
     {
-        s < self.states && agrees((label(self.file, s) >> p) % 2 == 1, with)
+        s < self.states && agrees(has(label(self.file, s) as u64, p), with)
     }
 }
 

@@ -15,7 +15,7 @@ ghost use Rattle.regular_model.specs.StepGroups.{group_at, hits};
 use crate::bytes::{agrees, member, take};
 use crate::drive::Drive;
 use crate::members::store;
-use case_reader::{Atom, Kind, Triple, kind_of};
+use case_reader::{Atom, Kind, Triple, has, kind_of};
 
 // Of some step if true, else of all, by the actions of a group, which are among those from `first` up to `last`.
 #[derive(Clone, Copy)]
@@ -100,7 +100,7 @@ impl Drive<'_> {
         ensures { result ≡ both (has m.group a) (hits (read self.now.file.now).steps (held_at x.now 0) m.some (group_at (read self.now.file.now).steps (8 * s + a)) (group_at (read self.now.file.now).steps (8 * s + a + 1))) }
     {
         let k = 8 * s + a;
-        (m.group >> a) % 2 == 1
+        has(m.group as u64, a)
             && self.hit(
                 self.index[k] as usize,
                 self.index[k + 1] as usize,

@@ -15,7 +15,7 @@ use crate::bytes::{constant, copy, intersection, union};
 use crate::drive::Drive;
 use crate::labels::label_set;
 use crate::modal::{modal_set, modality_at};
-use case_plan::{Plan, binder, node};
+use case_plan::Plan;
 use case_reader::{Atom, Kind, Operator, kind_of};
 
 // An atom with its operand a; τ and the modalities have no set of their own.
@@ -44,7 +44,7 @@ fn fill_two(work: &mut [u8], rule: &Rule, j: usize, operator: Operator)
     requires { Fillable rule.now.drive.file.now (decoded rule.now.plan.now) work.old j × (nodes_of (decoded rule.now.plan.now) j ≡ two (op_of operator) ((decoded rule.now.plan.now).nodes j).1 ((decoded rule.now.plan.now).nodes j).2) }
     ensures { Stored work.old work.new (64 * j) (made (frame (read rule.now.drive.file.now) (decoded rule.now.plan.now)) (nodes_of (decoded rule.now.plan.now) j) (blocks work.old)) }
 {
-    let x = node(rule.plan, j);
+    let x = rule.plan.node(j);
     let a = 64 * x.1;
     let b = 64 * x.2;
     let c = 64 * j;
@@ -52,7 +52,7 @@ fn fill_two(work: &mut [u8], rule: &Rule, j: usize, operator: Operator)
         Operator::Or => union(work, a, b, c),
         Operator::And => intersection(work, a, b, c),
         Operator::Chop => {
-            let left = modality_at(node(rule.plan, x.1));
+            let left = modality_at(rule.plan.node(x.1));
             modal_set(work, &rule.drive, left, b, c)
         }
     }
@@ -63,11 +63,11 @@ pub fn fill(work: &mut [u8], rule: &Rule, j: usize)
     requires { Fillable rule.now.drive.file.now (decoded rule.now.plan.now) work.old j }
     ensures { Stored work.old work.new (64 * j) (made (frame (read rule.now.drive.file.now) (decoded rule.now.plan.now)) (nodes_of (decoded rule.now.plan.now) j) (blocks work.old)) }
 {
-    let x = node(rule.plan, j);
+    let x = rule.plan.node(j);
     let c = 64 * j;
     match kind_of(x) {
         Kind::Atom(atom) => fill_atom(work, &rule.drive, atom, x.1, c),
-        Kind::Variable => copy(work, 64 * binder(rule.plan, x.1), c),
+        Kind::Variable => copy(work, 64 * rule.plan.binder(x.1), c),
         Kind::Two(operator) => fill_two(work, rule, j, operator),
         Kind::Binder(_) => {}
     }

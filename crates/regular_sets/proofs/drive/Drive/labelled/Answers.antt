@@ -9,10 +9,10 @@ use Rattle.regular_sets.proofs.LabelSets.{label_beyond, label_at}
 use Rattle.regular_sets.proofs.drive.Drive.labelled.Goals as goal
 
 pub returns-then-s-self : goal.returns-then-s-self
-unfolding has table
+unfolding table
 returns-then-s-self c =
     let D = c.args.self.now in
-    c.agrees.ensures ∙ ap (λ l. signed c.args.with (has l c.args.p)) c.label.ensures.is
+    c.agrees.ensures ∙ ap (signed c.args.with) (c.has.ensures ∙ ap (λ l. has l c.args.p) c.label.ensures.is)
     ∙ sym (label_at (table (read D.file.now)) c.args.with c.args.p c.args.s (omega (arith, c.if-s-self.true, D.counted)))
 
 pub returns-else-s-self : goal.returns-else-s-self
