@@ -17,7 +17,8 @@ pub fn merged_starts(file: &[u8], pair: Pair) -> u16
     let mut set = 0u16;
     for i in 0..start_count(file) {
         let s = start(file, i);
-        set |= 1 << pair.moved(s);
+        let t = pair.moved(s);
+        set |= 1 << t;
     }
     set
 }

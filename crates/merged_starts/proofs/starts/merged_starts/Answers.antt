@@ -18,13 +18,13 @@ pub loop-i-init : goal.loop-i-init
 loop-i-init c = none_gathered (moved c.args.pair.kept c.args.pair.removed) (read c.args.file.now).starts
 
 -- the start state, and the one that stands for it, which is added
-small : (c : goal.After-moved) → let a = c.args in
-    (c.moved.result ≡ moved a.pair.kept a.pair.removed (byte_at (read a.file.now).starts c.loop-i.i)) × (c.moved.result < most_states)
+small : (c : goal.After-moved-t) → let a = c.args in
+    (c.moved-t.result ≡ moved a.pair.kept a.pair.removed (byte_at (read a.file.now).starts c.loop-i.i)) × (c.moved-t.result < most_states)
 small c =
     let a = c.args in
     let is = c.start-s.ensures.is in
     let old = c.requires.starts c.loop-i.i (omega (arith, c.start_count-i-end.ensures.is, c.loop-i-test.true)) in
-    let e = c.moved.ensures ∙ ap (moved a.pair.kept a.pair.removed) is in
+    let e = c.moved-t.ensures ∙ ap (moved a.pair.kept a.pair.removed) is in
     (e, rw e (moved_inside a.pair.kept a.pair.removed most_states _ c.requires.kept old))
 
 pub overflow_cast-set : goal.overflow_cast-set
