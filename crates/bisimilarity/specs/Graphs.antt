@@ -15,12 +15,6 @@ table_of g = record {
   step = λ s a t. both (has g.acts a) (both (ltb a actions) (has (get_or g.successors (8 * s + a) 0) t));
 }
 
--- at most 16 states, and no step to another number
-pub record Sized (g : Graph) : Type 0 where
-  pub few : g.states ≤ most_states
-  pub within : (s a : ℕ) → a < actions → get_or g.successors (8 * s + a) 0 < 2 ^ g.states
-
 -- the graph of a case
 pub record Drawn (c : Case) (g : Graph) : Type 0 where
-  pub sized : Sized g
   pub is : table_of g ≡ reduct (looked c) (table c)
