@@ -67,8 +67,8 @@ compared n a b few p q = bool_ext _ _ there back
     there : T (same_rows n a b) → T (pointwise eqb (take n a) (take n b))
     there u =
         let same : take n a ≡ take n b = ext_get_or 0 (take n a) (take n b) (length-take-le n a h ∙ sym (length-take-le n b k)) (λ i l.
-            let m : i < n = omega (arith, l, length-take-le n a h) in
-            get_or-take n a i 0 m ∙ eqb→eq _ _ (for_all_use n _ u i m) ∙ sym (get_or-take n b i 0 m)) in
+        let m : i < n = omega (arith, l, length-take-le n a h) in
+        get_or-take n a i 0 m ∙ eqb→eq _ _ (for_all_use n _ u i m) ∙ sym (get_or-take n b i 0 m)) in
         subst T (sym ((bytes_decides (take n a) (take n b)).1 same)) tt
 
     back : T (pointwise eqb (take n a) (take n b)) → T (same_rows n a b)

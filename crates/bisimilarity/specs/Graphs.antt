@@ -1,10 +1,9 @@
 -- The state table that the code's graph holds: of a case, what its rule looks at.
-use Rattle.std.specs.Prelude.{ℕ, ◌+◌, ◌*◌, ◌^◌, ◌≤◌, ◌<◌, ◌≡◌, ltb, get_or}
+use Rattle.std.specs.Prelude.{◌+◌, ◌*◌, ◌≡◌, ltb, get_or}
 use Rattle.flc.specs.Sets.{both, has}
 use Rattle.flc.specs.Formula.{Table, actions}
 use Rattle.flc.specs.Vocabulary.{reduct}
 use Rattle.case_model.specs.Case.{Case, table}
-use Rattle.case_model.specs.Limits.{most_states}
 use Rattle.case_model.specs.Looking.{looked}
 use Rattle.bisimilarity.specs.declared.graph.Graph.{Graph}
 

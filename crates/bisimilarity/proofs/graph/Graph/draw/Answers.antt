@@ -1,5 +1,5 @@
 -- `bisimilarity::graph::Graph::draw` meets its contract: the parts are those of the case, as far as its rule looks.
-use mathlib.Core.Path.{◌≡◌, ap, ◌∙◌}
+use mathlib.Core.Path.{ap, ◌∙◌}
 use native.Mathlib.Omega.{arith}
 use Prim.Native.Nat.{ℕ}
 use lib.Bits.{bit_and}
