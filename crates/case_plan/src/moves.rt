@@ -1,7 +1,7 @@
 // In which direction a binder's approximants move, and the set of its variable. Both engines stand on them.
 ghost use Rattle.std.specs.Prelude.{◌≡◌, ◌^◌, ◌<◌};
 ghost use Rattle.case_model.specs.Limits.{variables};
-ghost use Rattle.case_plan.specs.Moves.{direction};
+ghost use Rattle.case_plan.specs.Moves.{direction, goes_on};
 
 // Up, from approximant 0 of a least fixed point; down, from that of a greatest.
 #[derive(Clone, Copy, PartialEq, Eq)]
@@ -20,6 +20,13 @@ impl Direction {
         } else {
             Direction::Down
         }
+    }
+
+    // May a binder that moves in this direction go on from what it has? Only if what moved since moved so too; it starts anew if nothing is known.
+    pub fn goes_on(self, moved: Option<Self>) -> bool
+        ensures { result ≡ goes_on self moved }
+    {
+        moved == Some(self)
     }
 }
 

@@ -99,6 +99,7 @@ impl TryFrom<usize> for Kind {
 }
 
 // The line of the table that a triple has; past the table's end, a constant.
+#[tactic(auto, using(crate::proofs::Knowing::by_number))]
 pub fn kind_of(t: Triple) -> Kind
     ensures { line_of result ≡ kind_at t.0 }
 {
@@ -108,13 +109,7 @@ pub fn kind_of(t: Triple) -> Kind
 pub fn is_binder(t: Triple) -> bool
     ensures { result ≡ is_binder (node_of (triple t)) }
 {
-    let kind = kind_of(t);
-    match kind {
-        Kind::Atom(_) => false,
-        Kind::Variable => false,
-        Kind::Two(_) => false,
-        Kind::Binder(_) => true,
-    }
+    matches!(kind_of(t), Kind::Binder(_))
 }
 
 // Row 5, for node j. The lines are the productions of the grammar line of source document 000, section 2, in its order, q as its four kinds; then the two

@@ -15,6 +15,7 @@ pub fn all_states(n: usize) -> u16
 }
 
 // Is i in the set, of any width?
+#[tactic(auto, unfolding(flc::specs::Sets::has))]
 pub fn has(set: u64, i: usize) -> bool
     ensures { result ≡ has set i }
 {

@@ -31,6 +31,7 @@ fn bit_of(x: Triple) -> u16
 }
 
 // Marks one step more.
+#[tactic(auto, unfolding(crate::specs::StepRows::marked))]
 pub fn mark(rows: &mut [u16; 128], x: Triple)
     ensures { rows.new ≡ marked rows.old (triple x) }
 {
