@@ -1,4 +1,4 @@
 pub mod Shifts
 pub mod Stages
 pub mod Opening
-pub mod Numbers
+pub mod Refusals

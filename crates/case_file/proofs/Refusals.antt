@@ -1,9 +1,17 @@
--- The numbers of refusals are small.
+-- What a refusal that is made of its reason replies; and the numbers of refusals are small.
 use Prim.Native.Nat.{◌^◌, ◌<◌}
+use mathlib.Core.Path.{◌≡◌, ap}
 use native.Mathlib.Omega.{arith}
+use Rattle.case_model.specs.Replies.{Reply, refuses}
 use Rattle.case_file.specs.EnumNumbers.{number}
 use Rattle.case_file.specs.declared.reason.Reason.{Reason}
 use Rattle.case_file.specs.declared.reason.Reason.TheVariants as reason
+use Rattle.case_file.specs.declared.reason.Refusal.{Refusal}
+
+-- place 0
+pub of_reason : {A : Type 0} {why : Reason} (r : Refusal) → r ≡ record { reason = why; place = 0 }
+    → ◌≡◌ {A = Reply A} (refuses (number r.reason) r.place) (refuses (number why) 0)
+of_reason r e = ap (λ (r : Refusal). refuses (number r.reason) r.place) e
 
 -- a number has room between bit 32 and bit 63 of a reply's word
 pub number_small : (r : Reason) → number r < 2 ^ 31
