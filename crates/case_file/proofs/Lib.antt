@@ -1,4 +1,4 @@
-pub mod Stages
-pub mod Answers
 pub mod Shifts
+pub mod Stages
 pub mod Opening
+pub mod Refusals

@@ -6,6 +6,8 @@ use mathlib.Core.List.{List, []}
 use mathlib.Core.Path.{◌≡◌, sym, ap, ◌∙◌}
 use borrow.Author.Tests.{ltb-true}
 use lib.ListN.{length, take, drop}
+use Rattle.std.specs.declared.result.Result.{Result}
+use Rattle.std.specs.declared.result.Result.TheVariants.{Ok, Err}
 use Rattle.case_model.specs.Bytes.{byte_at, offset, size, section}
 use Rattle.case_model.specs.Limits.{sections, standard}
 use Rattle.case_model.specs.Rows.{row8}
@@ -17,8 +19,6 @@ use Rattle.case_model.proofs.Valid.{accepted_pairs}
 use Rattle.case_file.specs.EnumNumbers.{vetted_reply}
 use Rattle.case_file.specs.declared.reason.Refusal.{Refusal}
 use Rattle.case_file.specs.declared.vetting.Counts.{Counts}
-use Rattle.case_file.specs.declared.vetting.Vetted.{Vetted}
-use Rattle.case_file.specs.declared.vetting.Vetted.TheVariants as vetted
 
 pub record Opens (f : List ℕ) (k : ℕ) : Type 0 where
   pub number : k < sections
@@ -27,7 +27,7 @@ pub record Opens (f : List ℕ) (k : ℕ) : Type 0 where
   pub long : length (opening f k) ≡ size f k
   pub at : opened_at f k ≡ offset f k
 
-pub opens : (f : List ℕ) (k : ℕ) {v : Vetted} (x : Counts) → v ≡ vetted.Counts x → vetted_reply v ≡ vetting f k → Opens f k
+pub opens : (f : List ℕ) (k : ℕ) {v : Result Counts Refusal} (x : Counts) → v ≡ Ok x → vetted_reply v ≡ vetting f k → Opens f k
 unfolding vetting opening opened_at
 opens f k {v} x q e =
     let (ok, own, _) = answered standard f (λ c. row8 k sections) counts (sym e ∙ ap vetted_reply q) in
@@ -49,6 +49,6 @@ pub record Empty (f : List ℕ) (k : ℕ) : Type 0 where
   pub is : [] ≡ opening f k
   pub at : opened_at f k ≡ 0
 
-pub refuses : (f : List ℕ) (k : ℕ) {v : Vetted} (x : Refusal) → v ≡ vetted.Refused x → vetted_reply v ≡ vetting f k → Empty f k
+pub refuses : (f : List ℕ) (k : ℕ) {v : Result Counts Refusal} (x : Refusal) → v ≡ Err x → vetted_reply v ≡ vetting f k → Empty f k
 unfolding opening opened_at
 refuses f k x q e = record { is = rw (← e, q); at = rw (← e, q) }

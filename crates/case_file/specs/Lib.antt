@@ -1,2 +1,3 @@
+pub mod Counting
 pub mod EnumNumbers
 pub mod VettingStages

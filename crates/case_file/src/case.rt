@@ -1,36 +1,37 @@
-// The case type of the entries: its limits, and the checked constructor. A judge with wider limits has a type like this one.
-ghost use Rattle.std.specs.Prelude.{◌≡◌, ◌*◌, ◌^◌, leb, ltb};
-ghost use Rattle.case_model.specs.Limits.{standard};
-ghost use Rattle.case_model.specs.Replies.{accepting};
-ghost use Rattle.case_file.specs.EnumNumbers.{checked_reply};
-ghost use Rattle.case_file.specs.declared.case.Checked.TheVariants as checked;
+// The case type of the entries: its limits, and the checked constructor. A judge with wider limits has the same type at its own.
+ghost use Rattle.std.specs.Prelude.{◌≡◌, ◌*◌, ◌^◌, leb, ltb, IfOk};
+ghost use Rattle.case_model.specs.Replies.{accepting, Accepted};
+ghost use Rattle.case_file.specs.Counting.{counts_of};
 
-use crate::reason::{Reason, Refusal};
-use crate::vetting::{Counts, Vetted, vet_within};
+use crate::reason::Refusal;
+use crate::vetting::{Counts, vet_within};
 use case_reader::Kind;
 
-// An accepted case.
+// An accepted case of at most so many bytes and states: its file, which no entry vets again.
 #[derive(Clone, Copy)]
-pub struct Case {
+pub struct CaseWithin<'a, const LONGEST: usize, const STATES: usize> {
+    file: &'a [u8],
     counts: Counts,
+    ghost accepted: { Accepted (record { longest = LONGEST; states = STATES }) file.now (counts_of counts) },
 }
 
-#[derive(Clone, Copy)]
-pub enum Checked {
-    Case(Case),
-    Refused(Refusal),
-}
+// In bytes.
+const LONGEST: usize = 6394;
 
-impl Case {
-    // In bytes.
-    pub const LONGEST: usize = 6394;
+const STATES: usize = 16;
+
+// A case of the entries of docs/SPECIFICATION.md.
+pub type Case<'a> = CaseWithin<'a, LONGEST, STATES>;
+
+impl Case<'_> {
+    pub const LONGEST: usize = LONGEST;
 
     pub const SECTIONS: usize = case_reader::SECTIONS;
 
     // In bytes, between two sections.
     pub const PADDING: usize = case_tests::PADDING;
 
-    pub const STATES: usize = 16;
+    pub const STATES: usize = STATES;
 
     pub const NODES: usize = case_tests::NODES;
 
@@ -39,33 +40,42 @@ impl Case {
     pub const PROPOSITIONS: usize = Kind::PROPOSITIONS;
 
     pub const VARIABLES: usize = Kind::VARIABLES;
+}
+
+impl<'a, const LONGEST: usize, const STATES: usize> CaseWithin<'a, LONGEST, STATES> {
+    ghost use Rattle.case_file.specs.EnumNumbers.{checked_reply};
 
     // The checked constructor: a case only of a file that none of refusals 1 to 7 meets.
-    pub fn new(file: &[u8]) -> Checked
-        ensures { checked_reply result ≡ accepting standard file.now }
+    #[tactic(auto, using(case_model::proofs::Replying::accepts))]
+    pub fn new(file: &'a [u8]) -> Result<Self, Refusal>
+        ensures value { checked_reply result ≡ accepting (record { longest = LONGEST; states = STATES }) file.entry.now }
+        ensures same_file { IfOk result (λ x. x.file ≡ file.entry) }
     {
-        let vetted = vet_within(file, Case::LONGEST, Case::STATES);
-        match vetted {
-            Vetted::Counts(counts) => Checked::Case(Case { counts }),
-            Vetted::Refused(refusal) => Checked::Refused(refusal),
-        }
+        let counts = vet_within(file, LONGEST, STATES)?;
+        Ok(CaseWithin { file, counts })
+    }
+
+    pub fn file(self) -> &'a [u8]
+        ensures { result ≡ self.entry.file }
+    {
+        self.file
     }
 
     pub fn states(self) -> usize
-        ensures { result ≡ self.counts.states }
+        ensures { result ≡ self.entry.counts.states }
     {
         self.counts.states
     }
 
     pub fn nodes(self) -> usize
-        ensures { result ≡ self.counts.nodes }
+        ensures { result ≡ self.entry.counts.nodes }
     {
         self.counts.nodes
     }
 
     // Row 8: is this the number of a set of the case's states? A shift by their count leaves nothing of one; from 64 states on, every number is one.
     pub fn has_set(self, set: usize) -> bool
-        ensures { result ≡ ltb set (2 ^ self.counts.states) }
+        ensures { result ≡ ltb set (2 ^ self.entry.counts.states) }
     {
         let n = self.counts.states;
         if n < 64 { set >> n == 0 } else { true }
@@ -73,7 +83,7 @@ impl Case {
 
     // Row 9: are there words enough for two tables a node, each with a word for every set? By a shift too, which no count makes overflow.
     pub fn has_area(self, words: usize) -> bool
-        ensures { result ≡ leb (2 * self.counts.nodes * 2 ^ self.counts.states) words }
+        ensures { result ≡ leb (2 * self.entry.counts.nodes * 2 ^ self.entry.counts.states) words }
     {
         let n = self.counts.states;
         let m = self.counts.nodes;
@@ -82,20 +92,5 @@ impl Case {
         } else {
             m == 0
         }
-    }
-}
-
-impl Checked {
-    // Why there is no case. Of a case nothing is said: whoever has taken the answer apart knows which it is.
-    pub fn refusal(self) -> Refusal
-        ensures { (x : Refusal) → self ≡ checked.Refused x → result ≡ x }
-    {
-        let Checked::Refused(refusal) = self else {
-            return Refusal {
-                reason: Reason::Pairs,
-                place: 0,
-            };
-        };
-        refusal
     }
 }

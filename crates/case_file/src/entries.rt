@@ -4,27 +4,28 @@ ghost use Rattle.case_model.specs.Replies.{vetting, Opened};
 ghost use Rattle.case_file.specs.EnumNumbers.{vetted_reply};
 
 use crate::case::Case;
-use crate::vetting::{Vetted, Vetting};
+use crate::reason::Refusal;
+use crate::vetting::{Counts, Vetting};
 use case_reader::{section_offset, section_size};
 use case_tests::Limits;
 
 // The counts of states and nodes, or the first refusal.
-pub fn vet(file: &[u8], section: usize) -> Vetted
+#[tactic(auto, unfolding(case_model::specs::Replies::vetting, case_model::specs::Replies::replying))]
+pub fn vet(file: &[u8], section: usize) -> Result<Counts, Refusal>
     ensures { vetted_reply result ≡ vetting file.now section }
 {
     let limits = Limits {
         longest: Case::LONGEST,
         states: Case::STATES,
     };
-    Vetting::rows(file, limits).section(section).reply()
+    Ok(Vetting::rows(file, limits)?.section(section)?.counts())
 }
 
 // A section as that part of the file, or an empty part where vetting refuses.
 pub fn open(file: &[u8], section: usize) -> &[u8]
     ensures { Opened file.entry result section }
 {
-    let vetted = vet(file, section);
-    let Vetted::Counts(_) = vetted else {
+    let Ok(_) = vet(file, section) else {
         return &file[..0];
     };
     let start = section_offset(file, section);

@@ -1,27 +1,27 @@
-// Refusals: the reasons in the order of their numbers (docs/SPECIFICATION.md, section 8), with a place.
+// Refusals: the reasons by their numbers (docs/SPECIFICATION.md, section 8), with a place.
 ghost use Rattle.std.specs.Prelude.{◌≡◌};
 ghost use Rattle.case_file.specs.EnumNumbers.{number};
 
-#[derive(Clone, Copy)]
+#[derive(Clone, Copy, PartialEq, Eq, Debug)]
 pub enum Reason {
-    Pairs,
-    Labels,
-    Steps,
-    Rule,
-    Node,
-    Binder,
-    Free,
-    Beyond,
-    Work,
-    Unlike,
-    Shape,
-    TooManyNodes,
-    Room,
-    Form,
-    Table,
+    Pairs = 1,
+    Labels = 2,
+    Steps = 3,
+    Rule = 4,
+    Node = 5,
+    Binder = 6,
+    Free = 7,
+    Beyond = 8,
+    Work = 9,
+    Unlike = 10,
+    Shape = 11,
+    TooManyNodes = 12,
+    Room = 13,
+    Form = 14,
+    Table = 15,
 }
 
-#[derive(Clone, Copy)]
+#[derive(Clone, Copy, PartialEq, Eq, Debug)]
 pub struct Refusal {
     pub reason: Reason,
     pub place: usize,
@@ -32,23 +32,15 @@ impl Refusal {
     pub fn number(self) -> u64
         ensures { result ≡ number self.reason }
     {
-        let reason = self.reason;
-        match reason {
-            Reason::Pairs => 1,
-            Reason::Labels => 2,
-            Reason::Steps => 3,
-            Reason::Rule => 4,
-            Reason::Node => 5,
-            Reason::Binder => 6,
-            Reason::Free => 7,
-            Reason::Beyond => 8,
-            Reason::Work => 9,
-            Reason::Unlike => 10,
-            Reason::Shape => 11,
-            Reason::TooManyNodes => 12,
-            Reason::Room => 13,
-            Reason::Form => 14,
-            Reason::Table => 15,
-        }
+        self.reason as u64
+    }
+}
+
+// A refusal with place 0.
+impl From<Reason> for Refusal {
+    ghost from_gives = { λ r x. x ≡ record { reason = r; place = 0 } };
+
+    fn from(reason: Reason) -> Refusal {
+        Refusal { reason, place: 0 }
     }
 }

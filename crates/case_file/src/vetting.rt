@@ -1,205 +1,146 @@
 // Vetting: from refusal 1 up, each test a step of a state that goes by value.
-ghost use Rattle.std.specs.Prelude.{◌≡◌};
+ghost use Rattle.std.specs.Prelude.{◌≡◌, true, IfOk};
 ghost use Rattle.case_model.specs.Case.{read};
-ghost use Rattle.case_model.specs.Rows.{◌or_else◌, unless, row1, row2, row3, row5, row6, row7, row8, refusals, rule_holds, sound, starts_rise};
+ghost use Rattle.case_model.specs.Rows.{unless, row1, row2, row3, row5, row6, row7, row8, refusals, rule_holds, starts_rise};
 ghost use Rattle.case_model.specs.Limits.{sections};
-ghost use Rattle.case_model.specs.Replies.{accepting, replied};
-ghost use Rattle.case_file.specs.EnumNumbers.{number, vetted_reply, found, counts_of};
+ghost use Rattle.case_model.specs.Replies.{accepting, counts};
+ghost use Rattle.case_file.specs.Counting.{counts_of};
+ghost use Rattle.case_file.specs.EnumNumbers.{number, vetted_reply, found};
 ghost use Rattle.case_tests.specs.RowTests.{limits_of};
-ghost use Rattle.case_file.specs.VettingStages.{Stage, Went, RuleTested, MayClose};
+ghost use Rattle.case_file.specs.VettingStages.{Went, refused_at};
 
 use crate::reason::{Reason, Refusal};
-use case_reader::{SECTIONS, node_count, section_size, state_count, step_count};
+use case_reader::{SECTIONS, node_count, section_size, state_count};
 use case_tests::{
-    Limits, Search, first_wrong, labels_hold, pairs_hold, root_closed, rule_holds, starts_rise,
+    Limits, first_wrong_binder, first_wrong_node, first_wrong_step, labels_hold, pairs_hold,
+    root_closed, rule_holds, starts_rise,
 };
 
 // How many states and nodes a file has.
-#[derive(Clone, Copy)]
+#[derive(Clone, Copy, PartialEq, Eq, Debug)]
 pub struct Counts {
     pub states: usize,
     pub nodes: usize,
 }
 
+// A file, and the limits that it is vetted within.
 #[derive(Clone, Copy)]
-pub enum Vetted {
-    Counts(Counts),
-    Refused(Refusal),
-}
-
-#[derive(Clone, Copy)]
-pub(crate) enum Finding {
-    Sound,
-    Refused(Refusal),
-}
-
-// The counts of the file, and what the tests so far have found.
-#[derive(Clone, Copy)]
-pub(crate) struct Vetting {
-    counts: Counts,
-    finding: Finding,
+pub(crate) struct Vetting<'a> {
+    file: &'a [u8],
+    limits: Limits,
 }
 
 // Rows 1 to 7 within the limits of the caller's case type: how many bytes and how many states there can be.
-pub fn vet_within(file: &[u8], longest: usize, states: usize) -> Vetted
+#[tactic(auto, unfolding(case_model::specs::Replies::accepting, case_model::specs::Replies::replying))]
+pub fn vet_within(file: &[u8], longest: usize, states: usize) -> Result<Counts, Refusal>
     ensures { vetted_reply result ≡ accepting (record { longest = longest; states = states }) file.now }
 {
-    Vetting::rows(file, Limits { longest, states }).reply()
+    Ok(Vetting::rows(file, Limits { longest, states })?.counts())
 }
 
-// A refusal, unless the test passed.
-fn tested(holds: bool, reason: Reason, place: usize) -> Finding
-    ensures { found result ≡ unless holds (number reason) place }
-{
-    if holds {
-        Finding::Sound
-    } else {
-        Finding::Refused(Refusal { reason, place })
-    }
-}
-
-// What was found first.
-fn earlier(before: Finding, now: Finding) -> Finding
-    ensures { found result ≡ found before or_else found now }
-{
-    let Finding::Sound = before else {
-        return before;
-    };
-    now
-}
-
-impl Vetting {
-    fn begin(file: &[u8]) -> Vetting
-        ensures { Stage file.now result sound }
-    {
-        let counts = Counts {
-            states: state_count(file),
-            nodes: node_count(file),
-        };
-        Vetting {
-            counts,
-            finding: Finding::Sound,
-        }
-    }
-
+impl<'a> Vetting<'a> {
     // Rows 1 to 7, in this order.
-    pub(crate) fn rows(file: &[u8], limits: Limits) -> Vetting
-        ensures { Stage file.now result (refusals (limits_of limits) file.now) }
+    #[tactic(auto, unfolding(case_model::specs::Rows::refusals))]
+    pub(crate) fn rows(file: &'a [u8], limits: Limits) -> Result<Vetting<'a>, Refusal>
+        ensures finds { found result ≡ refusals (limits_of limits) file.now }
+        ensures same_file { IfOk result (λ v. v.file ≡ file.entry) }
     {
-        Vetting::begin(file)
-            .pairs(file, limits)
-            .labels(file, limits)
-            .steps(file)
-            .rule(file)
-            .starts(file)
-            .kinds(file)
-            .binders(file)
-            .closed(file)
+        Vetting { file, limits }
+            .pairs()?
+            .labels()?
+            .steps()?
+            .rule()?
+            .starts()?
+            .kinds()?
+            .binders()?
+            .closed()
     }
 
-    pub(crate) fn reply(self) -> Vetted
-        ensures { vetted_reply result ≡ replied (found self.finding) (counts_of self.counts) }
+    pub(crate) fn counts(self) -> Counts
+        ensures { counts_of result ≡ counts (read self.entry.file.now) }
     {
-        let counts = self.counts;
-        let finding = self.finding;
-        match finding {
-            Finding::Sound => Vetted::Counts(counts),
-            Finding::Refused(refusal) => Vetted::Refused(refusal),
+        Counts {
+            states: state_count(self.file),
+            nodes: node_count(self.file),
         }
     }
 
-    // The next state: what was found before stands.
-    fn unless(self, holds: bool, reason: Reason, place: usize) -> Vetting
-        ensures { Went self result (unless holds (number reason) place) }
+    // The state, or the refusal unless the test passed.
+    fn unless(self, holds: bool, reason: Reason) -> Result<Vetting<'a>, Refusal>
+        ensures { Went self.entry result (unless holds (number reason) 0) }
     {
-        let counts = self.counts;
-        let before = self.finding;
-        let now = tested(holds, reason, place);
-        let finding = earlier(before, now);
-        Vetting { counts, finding }
+        if holds { Ok(self) } else { Err(reason.into()) }
     }
 
-    fn pairs(self, file: &[u8], limits: Limits) -> Vetting
-        ensures { Went self result (row1 (limits_of limits) file.now) }
+    // The state, or the refusal at the lowest place that is wrong.
+    fn unless_at(self, wrong: Option<usize>, reason: Reason) -> Result<Vetting<'a>, Refusal>
+        ensures { Went self.entry result (refused_at (number reason) wrong) }
     {
-        self.unless(pairs_hold(file, limits), Reason::Pairs, 0)
+        match wrong {
+            Some(place) => Err(Refusal { reason, place }),
+            None => Ok(self),
+        }
     }
 
-    fn labels(self, file: &[u8], limits: Limits) -> Vetting
-        ensures { Went self result (row2 (limits_of limits) (read file.now)) }
+    fn pairs(self) -> Result<Vetting<'a>, Refusal>
+        ensures { Went self.entry result (row1 (limits_of self.entry.limits) self.entry.file.now) }
     {
-        self.unless(labels_hold(file, limits), Reason::Labels, 0)
+        self.unless(pairs_hold(self.file, self.limits), Reason::Pairs)
     }
 
-    fn steps(self, file: &[u8]) -> Vetting
-        ensures { Went self result (row3 file.now (read file.now)) }
+    fn labels(self) -> Result<Vetting<'a>, Refusal>
+        ensures { Went self.entry result (row2 (limits_of self.entry.limits) (read self.entry.file.now)) }
     {
-        let finding = self.finding;
-        let Finding::Sound = finding else {
-            return self;
-        };
-        let count = step_count(file);
-        let bad = first_wrong(file, Search::Step, count);
-        self.unless(section_size(file, 1) % 3 == 0, Reason::Steps, 0)
-            .unless(bad == count, Reason::Steps, bad)
+        self.unless(labels_hold(self.file, self.limits), Reason::Labels)
     }
 
-    fn rule(self, file: &[u8]) -> Vetting
-        ensures { Went self result (unless (rule_holds file.now (read file.now)) 4 0) }
+    #[tactic(auto, using(crate::proofs::Stages::lowest_found))]
+    fn steps(self) -> Result<Vetting<'a>, Refusal>
+        ensures { Went self.entry result (row3 self.entry.file.now (read self.entry.file.now)) }
     {
-        self.unless(rule_holds(file), Reason::Rule, 0)
+        self.unless(section_size(self.file, 1) % 3 == 0, Reason::Steps)?
+            .unless_at(first_wrong_step(self.file), Reason::Steps)
+    }
+
+    fn rule(self) -> Result<Vetting<'a>, Refusal>
+        ensures { Went self.entry result (unless (rule_holds self.entry.file.now (read self.entry.file.now)) 4 0) }
+    {
+        self.unless(rule_holds(self.file), Reason::Rule)
     }
 
     // The other half of row 4. Both have one number and one place, so no reply tells which came first: what is asked for here does.
-    fn starts(self, file: &[u8]) -> Vetting
-        requires { RuleTested self file.now }
-        ensures { Went self result (unless (starts_rise (read file.now)) 4 0) }
+    fn starts(self) -> Result<Vetting<'a>, Refusal>
+        requires { rule_holds self.file.now (read self.file.now) ≡ true }
+        ensures { Went self.entry result (unless (starts_rise (read self.entry.file.now)) 4 0) }
     {
-        let finding = self.finding;
-        let Finding::Sound = finding else {
-            return self;
-        };
-        self.unless(starts_rise(file), Reason::Rule, 0)
+        self.unless(starts_rise(self.file), Reason::Rule)
     }
 
-    fn kinds(self, file: &[u8]) -> Vetting
-        ensures { Went self result (row5 (read file.now)) }
+    #[tactic(auto, using(crate::proofs::Stages::lowest_found))]
+    fn kinds(self) -> Result<Vetting<'a>, Refusal>
+        ensures { Went self.entry result (row5 (read self.entry.file.now)) }
     {
-        let finding = self.finding;
-        let Finding::Sound = finding else {
-            return self;
-        };
-        let m = node_count(file);
-        let bad = first_wrong(file, Search::Node, m);
-        self.unless(bad == m, Reason::Node, bad)
+        self.unless_at(first_wrong_node(self.file), Reason::Node)
     }
 
-    fn binders(self, file: &[u8]) -> Vetting
-        ensures { Went self result (row6 (read file.now)) }
+    #[tactic(auto, using(crate::proofs::Stages::lowest_found))]
+    fn binders(self) -> Result<Vetting<'a>, Refusal>
+        ensures { Went self.entry result (row6 (read self.entry.file.now)) }
     {
-        let finding = self.finding;
-        let Finding::Sound = finding else {
-            return self;
-        };
-        let m = node_count(file);
-        let bad = first_wrong(file, Search::Binder, m);
-        self.unless(bad == m, Reason::Binder, bad)
+        self.unless_at(first_wrong_binder(self.file), Reason::Binder)
     }
 
-    fn closed(self, file: &[u8]) -> Vetting
-        requires { MayClose self (read file.now) }
-        ensures { Went self result (row7 (read file.now)) }
+    // The table of free variables has an entry for each node of a rule that row 4 has passed.
+    fn closed(self) -> Result<Vetting<'a>, Refusal>
+        requires { rule_holds self.file.now (read self.file.now) ≡ true }
+        ensures { Went self.entry result (row7 (read self.entry.file.now)) }
     {
-        let finding = self.finding;
-        let Finding::Sound = finding else {
-            return self;
-        };
-        self.unless(root_closed(file), Reason::Free, 0)
+        self.unless(root_closed(self.file), Reason::Free)
     }
 
-    pub(crate) fn section(self, section: usize) -> Vetting
-        ensures { Went self result (row8 section sections) }
+    pub(crate) fn section(self, section: usize) -> Result<Vetting<'a>, Refusal>
+        ensures { Went self.entry result (row8 section sections) }
     {
-        self.unless(section < SECTIONS, Reason::Beyond, 0)
+        self.unless(section < SECTIONS, Reason::Beyond)
     }
 }

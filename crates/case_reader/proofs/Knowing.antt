@@ -1,9 +1,8 @@
 -- What a triple is by the number that was compared, a line of the table or past its end; and by the kind that was found, with the ranges of its operands.
 -- Equations of the table's lines.
-use Prim.Native.Nat.{ℕ, suc, ◌*◌, ◌%◌, ◌^◌, ◌≤◌, ◌<◌}
+use Prim.Native.Nat.{ℕ, ◌*◌, ◌%◌, ◌^◌, ◌≤◌, ◌<◌}
 use mathlib.Core.Bool.{true, ◌&&◌}
 use mathlib.Core.Path.{◌≡◌, refl, sym, ap, ◌∙◌, subst}
-use native.Mathlib.Decide.{ℕ_discrete}
 use native.Mathlib.Nat.{one-mul, mod-eq_of_lt}
 use native.Mathlib.Omega.{arith}
 use borrow.Author.Tests.{ltb-true}
@@ -15,11 +14,14 @@ use Rattle.flc.specs.Nodes.{Node}
 use Rattle.case_model.specs.Kinds as table
 use Rattle.case_model.specs.Kinds.{Triple, Operand, unused, under, fits, leaf_kind, kinds, kind_at, node_of, node_holds}
 use Rattle.case_model.proofs.Tests.{and_l, and_r}
-use Rattle.case_reader.specs.NodeKinds.{operand_of, line_of}
+use Rattle.case_reader.specs.NodeKinds.{operand_of, line_of, Decodes}
 use Rattle.case_reader.specs.declared.kinds.Atom.{Atom}
 use Rattle.case_reader.specs.declared.kinds.Atom.TheVariants as atoms
 use Rattle.case_reader.specs.declared.kinds.Kind.{Kind}
 use Rattle.case_reader.specs.declared.kinds.Kind.TheVariants as kind
+use Rattle.case_reader.specs.declared.kinds.UnknownKind.{UnknownKind}
+use Rattle.std.specs.Prelude.{Result, Ok, Err}
+use Rattle.std.specs.Result.{result_unwrap_or}
 
 -- the number is known
 pub known : {n k : ℕ} → n ≡ k → kind_at k ≡ kind_at n
@@ -30,9 +32,10 @@ pub unknown : (k : ℕ) → length kinds ≤ k → leaf_kind (λ a. atom bottom)
 unfolding kind_at
 unknown k h = sym (get_or-eq_default kinds _ h)
 
--- it was compared with one number more
-pub past : {k n : ℕ} → n ≤ k → (k ≡ n → ⊥) → suc n ≤ k
-past {k} {n} l h = elim (ℕ_discrete k n) [ yes e ↦ absurd (h e) | no _ ↦ omega arith ]
+-- the kind of a number, and past the table's end what stands there
+pub by_number : (n : ℕ) (r : Result Kind UnknownKind) {k : Kind} → Decodes n r → k ≡ result_unwrap_or r (kind.Atom atoms.Bottom) → line_of k ≡ kind_at n
+by_number n (Ok k') h q = ap line_of q ∙ h.1
+by_number n (Err e) h q = ap line_of q ∙ unknown n h.1
 
 -- what is made of the node of a triple, by the kind that was found
 pub by_kind {ℓ} : {A : Type ℓ} (t : Triple) (f : Node → A) {k k' : Kind} → k ≡ k' → line_of k ≡ kind_at t.0

@@ -81,11 +81,6 @@ module _ (x : Triple) where
     other_row n = is_false _ (λ u. let e = same x s a t u in n (omega (arith, e.from, e.action)))
 
 -- ---- one step more
--- a store is a mark
-pub marked_by : (rows : List ℕ) (x : Triple) {at bit : ℕ} → at ≡ row_of x → bit ≡ bit_of x → set rows at (bit_or (get_or rows at 0) bit) ≡ marked rows x
-unfolding marked
-marked_by rows x p q = ap₂ (λ p b. set rows p (bit_or (get_or rows p 0) b)) p q
-
 module _ {l : List Triple} {rows : List ℕ} (R : StepRows l rows) (x : Triple) where
   abbrev entry : ℕ
   entry = bit_or (get_or rows (row_of x) 0) (bit_of x)

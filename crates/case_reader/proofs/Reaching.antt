@@ -16,15 +16,11 @@ use Rattle.flc.proofs.Tests.{either_left, either_right, either_use}
 use Rattle.flc.proofs.Masks.{has_or, has_empty, has-single}
 use Rattle.flc.proofs.Unfolding.{Lower}
 use Rattle.case_model.specs.Limits.{most_nodes}
-use Rattle.case_model.specs.Kinds.{Triple, kind_at, node_of}
 use Rattle.case_model.specs.Case.{Case, node_at}
 use Rattle.case_model.specs.Valid.{ValidRule}
 use Rattle.case_model.specs.Reach.{Reached, the_root, named, ReachSet}
 use Rattle.case_model.proofs.Nodes.{all_lower, reached_low}
-use Rattle.case_reader.specs.NodeKinds.{line_of}
 use Rattle.case_reader.specs.NodeSets.{with_node, with_all, with_named, spread}
-use Rattle.case_reader.specs.declared.kinds.Kind.{Kind}
-use Rattle.case_reader.proofs.Knowing.{by_kind}
 
 -- ---- a bit that was looked at
 pub absent : (x j : ℕ) → x / 2 ^ j % 2 ≡ 0 → has x j ≡ false
@@ -34,11 +30,6 @@ absent x j e = rw e
 pub present : (x j : ℕ) → (x / 2 ^ j % 2 ≡ 0 → ⊥) → has x j ≡ true
 unfolding has
 present x j n = eq-eqb (x / 2 ^ j % 2) 1 (elim (ℕ_discrete (x / 2 ^ j % 2) 0) [ yes e ↦ absurd (n e) | no q ↦ omega arith ])
-
--- the node j that was looked at is in the set, and its kind was found
-pub named_by : (x : ℕ) (t : Triple) (j : ℕ) {k k' : Kind} → (x / 2 ^ j % 2 ≡ 0 → ⊥) → k ≡ k' → line_of k ≡ kind_at t.0
-    → with_all x ((line_of k').node t.1 t.2) ≡ with_named x (node_of t) j
-named_by x t j n q e = rw (present x j n) (by_kind t (with_all x) q e)
 
 -- ---- one node more
 module _ (x i : ℕ) where

@@ -6,20 +6,12 @@ ghost use Rattle.case_reader.specs.Read.{Is};
 pub fn byte(file: &[u8], at: usize) -> usize
     ensures { Is (byte_at file.now at) 256 result }
 {
-    if at < file.len() {
-        file[at] as usize
-    } else {
-        0
-    }
+    file.get(at).map_or(0, |byte| usize::from(*byte))
 }
 
-// Two bytes, low byte first; 0 past the end. The test is against the last position and not the length: where the position is known, nothing is left of it.
+// Two bytes, low byte first; 0 past the end. No file reaches the last position, so that it stands for the one after it too.
 pub fn word(file: &[u8], at: usize) -> usize
     ensures { Is (word_at file.now at) 65536 result }
 {
-    if at < usize::MAX {
-        byte(file, at) + 256 * byte(file, at + 1)
-    } else {
-        0
-    }
+    byte(file, at) + 256 * byte(file, at.saturating_add(1))
 }

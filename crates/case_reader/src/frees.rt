@@ -1,5 +1,5 @@
 // Free variables as masks, bit v for variable v: a table of the nodes, filled in rising number, so that a shared node is visited once.
-ghost use Rattle.std.specs.Prelude.{◌≡◌, ◌≤◌, length, get_or, replicate};
+ghost use Rattle.std.specs.Prelude.{◌≡◌, ◌≤◌, get_or, replicate};
 ghost use Rattle.case_model.specs.Kinds.{node_of};
 ghost use Rattle.case_model.specs.Case.{read, node_at};
 ghost use Rattle.case_model.specs.Limits.{most_nodes};
@@ -25,19 +25,16 @@ fn without(x: u16, v: usize) -> u16
 
 // Entry i of a table, 0 past its end.
 fn entry(t: &[u16; 64], i: usize) -> u16
-    requires { length t.now ≡ most_nodes }
     ensures { result ≡ get_or t.now i 0 }
 {
-    if i < 64 { t[i] } else { 0 }
+    t.get(i).map_or(0, |set| *set)
 }
 
 // The free variables of a node, from those of the nodes that it names.
 fn mask_of(t: &[u16; 64], x: Triple) -> u16
-    requires { length t.now ≡ most_nodes }
     ensures { result ≡ mask_of t.now (node_of (triple x)) }
 {
-    let kind = kind_of(x);
-    match kind {
+    match kind_of(x) {
         Kind::Atom(_) => 0,
         Kind::Variable => single(x.1),
         Kind::Two(_) => entry(t, x.1) | entry(t, x.2),
@@ -45,7 +42,7 @@ fn mask_of(t: &[u16; 64], x: Triple) -> u16
     }
 }
 
-// Those of each node below j, in a table that had none.
+// Those of each node below j, in a table that had none. By recursion over the node's number, as all that goes from nodes to lower ones.
 fn below(t: &mut [u16; 64], file: &[u8], j: usize)
     requires { (j ≤ most_nodes) × (t.old ≡ replicate most_nodes 0) }
     ensures { t.new ≡ masks (node_at (read file.now)) j }
@@ -62,12 +59,7 @@ fn below(t: &mut [u16; 64], file: &[u8], j: usize)
 pub fn masks(file: &[u8]) -> [u16; 64]
     ensures { result ≡ free_sets (read file.now) }
 {
-    let m = node_count(file);
     let mut t = [0u16; 64];
-    if m <= 64 {
-        below(&mut t, file, m);
-        return t;
-    }
-    below(&mut t, file, 64);
+    below(&mut t, file, node_count(file).min(64));
     t
 }

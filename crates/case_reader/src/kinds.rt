@@ -1,13 +1,14 @@
 // What a triple is as a node, and what its operands can be: the one place of the code that knows the numbers of the kinds.
 ghost use Rattle.std.specs.Prelude.{◌≡◌};
 ghost use Rattle.case_model.specs.Kinds.{kind_at, node_of, node_holds, is_binder};
+ghost use Rattle.case_model.specs.Kinds.{kind_of as number_of_operator};
 ghost use Rattle.case_reader.specs.Read.{triple};
-ghost use Rattle.case_reader.specs.NodeKinds.{line_of};
+ghost use Rattle.case_reader.specs.NodeKinds.{op_of, line_of, Decodes};
 
 use crate::parts::Triple;
 
 // What is constant, τ; and the modalities, of some step if true, else of all steps: those of one action and those of a group of actions.
-#[derive(Clone, Copy)]
+#[derive(Clone, Copy, PartialEq, Eq)]
 pub enum Atom {
     Top,
     Bottom,
@@ -18,15 +19,24 @@ pub enum Atom {
     Group(bool),
 }
 
-#[derive(Clone, Copy)]
+#[derive(Clone, Copy, PartialEq, Eq)]
 pub enum Operator {
-    Or,
-    And,
-    Chop,
+    Or = 8,
+    And = 9,
+    Chop = 10,
+}
+
+// The number of its kind.
+impl From<Operator> for usize {
+    ghost from_gives = { λ o n. n ≡ number_of_operator (op_of o) };
+
+    fn from(operator: Operator) -> usize {
+        operator as usize
+    }
 }
 
 // A leaf, which names no node: an atom or a variable; a node that names two; or a binder, of the least fixed point if true, else of the greatest.
-#[derive(Clone, Copy)]
+#[derive(Clone, Copy, PartialEq, Eq)]
 pub enum Kind {
     Atom(Atom),
     Variable,
@@ -56,41 +66,50 @@ impl Kind {
     pub const GROUPS: usize = 256;
 }
 
+// A number that is no kind's.
+#[derive(Clone, Copy, PartialEq, Eq)]
+pub struct UnknownKind(pub usize);
+
+impl TryFrom<usize> for Kind {
+    type Error = UnknownKind;
+
+    ghost try_from_gives = { Decodes };
+
+    #[tactic(auto, unfolding(case_model::specs::Kinds::kinds, case_model::specs::Kinds::kind_at))]
+    fn try_from(number: usize) -> Result<Self, UnknownKind> {
+        match number {
+            0 => Ok(Kind::Atom(Atom::Top)),
+            1 => Ok(Kind::Atom(Atom::Bottom)),
+            2 => Ok(Kind::Atom(Atom::Proposition)),
+            3 => Ok(Kind::Atom(Atom::Complement)),
+            4 => Ok(Kind::Variable),
+            5 => Ok(Kind::Atom(Atom::Tau)),
+            6 => Ok(Kind::Atom(Atom::Action(true))),
+            7 => Ok(Kind::Atom(Atom::Action(false))),
+            8 => Ok(Kind::Two(Operator::Or)),
+            9 => Ok(Kind::Two(Operator::And)),
+            10 => Ok(Kind::Two(Operator::Chop)),
+            11 => Ok(Kind::Binder(true)),
+            12 => Ok(Kind::Binder(false)),
+            13 => Ok(Kind::Atom(Atom::Group(true))),
+            14 => Ok(Kind::Atom(Atom::Group(false))),
+            _ => Err(UnknownKind(number)),
+        }
+    }
+}
+
 // The line of the table that a triple has; past the table's end, a constant.
+#[tactic(auto, using(crate::proofs::Knowing::by_number))]
 pub fn kind_of(t: Triple) -> Kind
     ensures { line_of result ≡ kind_at t.0 }
 {
-    let number = t.0;
-    match number {
-        0 => Kind::Atom(Atom::Top),
-        1 => Kind::Atom(Atom::Bottom),
-        2 => Kind::Atom(Atom::Proposition),
-        3 => Kind::Atom(Atom::Complement),
-        4 => Kind::Variable,
-        5 => Kind::Atom(Atom::Tau),
-        6 => Kind::Atom(Atom::Action(true)),
-        7 => Kind::Atom(Atom::Action(false)),
-        8 => Kind::Two(Operator::Or),
-        9 => Kind::Two(Operator::And),
-        10 => Kind::Two(Operator::Chop),
-        11 => Kind::Binder(true),
-        12 => Kind::Binder(false),
-        13 => Kind::Atom(Atom::Group(true)),
-        14 => Kind::Atom(Atom::Group(false)),
-        _ => Kind::Atom(Atom::Bottom),
-    }
+    Kind::try_from(t.0).unwrap_or(Kind::Atom(Atom::Bottom))
 }
 
 pub fn is_binder(t: Triple) -> bool
     ensures { result ≡ is_binder (node_of (triple t)) }
 {
-    let kind = kind_of(t);
-    match kind {
-        Kind::Atom(_) => false,
-        Kind::Variable => false,
-        Kind::Two(_) => false,
-        Kind::Binder(_) => true,
-    }
+    matches!(kind_of(t), Kind::Binder(_))
 }
 
 // Row 5, for node j. The lines are the productions of the grammar line of source document 000, section 2, in its order, q as its four kinds; then the two

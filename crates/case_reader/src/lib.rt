@@ -12,11 +12,11 @@ mod steps;
 
 pub use bytes::{byte, word};
 pub use frees::masks;
-pub use kinds::{Atom, Kind, Operator, is_binder, kind_of, node_holds};
+pub use kinds::{Atom, Kind, Operator, UnknownKind, is_binder, kind_of, node_holds};
 pub use parts::{
     SECTIONS, Triple, label, node, node_count, root, section_offset, section_size, start,
     start_count, state_count, step, step_count,
 };
 pub use reach::reached;
-pub use states::{all_states, holds};
+pub use states::{all_states, has, holds};
 pub use steps::{mark, step_rows};

@@ -10,8 +10,8 @@ use crate::bytes::{byte, word};
 // How many sections a file has.
 pub const SECTIONS: usize = 4;
 
-// A step (from, action, to), or a node (kind, A, B).
-#[derive(Clone, Copy)]
+// A step (from, action, to), or a node (kind, A, B). Steps are in order by the state that they leave, then the action, then the state that they enter.
+#[derive(Clone, Copy, PartialEq, Eq, PartialOrd, Ord)]
 pub struct Triple(pub usize, pub usize, pub usize);
 
 // Where a section begins, and how many bytes it has, as its pair says.

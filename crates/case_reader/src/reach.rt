@@ -1,8 +1,7 @@
 // Which nodes the root reaches, as a set: bit j for node j. By recursion over nodes with the number falling, so that a shared node is visited once.
-ghost use Rattle.std.specs.Prelude.{◌≡◌, ◌≤◌, ◌<◌};
+ghost use Rattle.std.specs.Prelude.{◌≡◌};
 ghost use Rattle.case_model.specs.Kinds.{node_of};
 ghost use Rattle.case_model.specs.Case.{read, node_at};
-ghost use Rattle.case_model.specs.Limits.{most_nodes};
 ghost use Rattle.case_model.specs.Valid.{ValidRule};
 ghost use Rattle.case_model.specs.Reach.{ReachSet};
 ghost use Rattle.case_reader.specs.Read.{triple};
@@ -10,6 +9,7 @@ ghost use Rattle.case_reader.specs.NodeSets.{with_node, with_named, spread};
 
 use crate::kinds::{Kind, kind_of};
 use crate::parts::{Triple, node, root};
+use crate::states::has;
 
 // The set with node i; a node past the 64th has no place in it.
 fn with(set: u64, i: usize) -> u64
@@ -20,17 +20,13 @@ fn with(set: u64, i: usize) -> u64
 
 // The set with the nodes that node j names, if it has j.
 fn with_named(set: u64, x: Triple, j: usize) -> u64
-    requires { j < most_nodes }
     ensures { result ≡ with_named set (node_of (triple x)) j }
 {
-    let bit = (set >> j) % 2;
-    if bit == 0 {
+    if !has(set, j) {
         return set;
     }
-    let kind = kind_of(x);
-    match kind {
-        Kind::Atom(_) => set,
-        Kind::Variable => set,
+    match kind_of(x) {
+        Kind::Atom(_) | Kind::Variable => set,
         Kind::Two(_) => with(with(set, x.1), x.2),
         Kind::Binder(_) => with(set, x.2),
     }
@@ -38,7 +34,6 @@ fn with_named(set: u64, x: Triple, j: usize) -> u64
 
 // The same for all nodes below k, from the highest down.
 fn spread(file: &[u8], k: usize, set: u64) -> u64
-    requires { k ≤ most_nodes }
     ensures { result ≡ spread (node_at (read file.now)) k set }
 {
     if k == 0 {
@@ -54,7 +49,8 @@ pub fn reached(file: &[u8]) -> u64
 {
     let top = root(file);
     if top < 64 {
-        return spread(file, top + 1, with(0, top));
+        spread(file, top + 1, with(0, top))
+    } else {
+        0
     }
-    0
 }

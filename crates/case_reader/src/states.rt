@@ -1,4 +1,4 @@
-// Sets of states as masks of 16 bits, bit s for state s: those of a case of at most 16 states.
+// Sets of numbers as masks, bit i for number i; of the states of a case of at most 16, as masks of 16 bits.
 ghost use Rattle.std.specs.Prelude.{true, ◌≡◌, ◌≤◌};
 ghost use Rattle.flc.specs.Sets.{set_of, has};
 ghost use Rattle.case_model.specs.Limits.{most_states};
@@ -14,9 +14,17 @@ pub fn all_states(n: usize) -> u16
     }
 }
 
+// Is i in the set, of any width?
+#[tactic(auto, unfolding(flc::specs::Sets::has))]
+pub fn has(set: u64, i: usize) -> bool
+    ensures { result ≡ has set i }
+{
+    i < 64 && (set >> i) % 2 == 1
+}
+
 // Is state s in the set?
 pub fn holds(set: u16, s: usize) -> bool
     ensures { result ≡ has set s }
 {
-    if s < 16 { (set >> s) % 2 == 1 } else { false }
+    has(set as u64, s)
 }

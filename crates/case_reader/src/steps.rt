@@ -30,15 +30,12 @@ fn bit_of(x: Triple) -> u16
     if inside { 1u16 << t } else { 0 }
 }
 
-// The rows with one step more.
-pub fn mark(rows: [u16; 128], x: Triple) -> [u16; 128]
-    ensures { result ≡ marked rows (triple x) }
+// Marks one step more.
+#[tactic(auto, unfolding(crate::specs::StepRows::marked))]
+pub fn mark(rows: &mut [u16; 128], x: Triple)
+    ensures { rows.new ≡ marked rows.old (triple x) }
 {
-    let at = row_of(x);
-    let bit = bit_of(x);
-    let mut next = rows;
-    next[at] = rows[at] | bit;
-    next
+    rows[row_of(x)] |= bit_of(x);
 }
 
 // The steps of a file, from the last to the first; turned round if asked.
@@ -46,12 +43,8 @@ pub fn step_rows(file: &[u8], turned: bool) -> [u16; 128]
     ensures { StepRows (steps_read turned (read file.now).steps) result }
 {
     let mut rows = [0u16; 128];
-    let mut i = step_count(file);
-    while 0 < i {
-        i -= 1;
-        let x = turned_if(step(file, i), turned);
-        let at = row_of(x);
-        rows[at] = rows[at] | bit_of(x);
+    for i in (0..step_count(file)).rev() {
+        mark(&mut rows, turned_if(step(file, i), turned));
     }
     rows
 }

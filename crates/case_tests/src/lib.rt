@@ -7,4 +7,7 @@ mod tests;
 
 pub use limits::{Limits, NODES, PADDING};
 pub use pairs::pairs_hold;
-pub use tests::{Search, first_wrong, labels_hold, root_closed, rule_holds, starts_rise};
+pub use tests::{
+    first_wrong_binder, first_wrong_node, first_wrong_step, labels_hold, root_closed, rule_holds,
+    starts_rise,
+};

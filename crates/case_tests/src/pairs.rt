@@ -20,32 +20,18 @@ fn section_end(file: &[u8], k: usize) -> usize
 fn padding(file: &[u8], from: usize, to: usize) -> bool
     ensures { result ≡ padding file.now from to }
 {
-    if to < from {
-        return false;
-    }
-    let count = to - from;
-    if PADDING < count {
-        return false;
-    }
-    let mut all = true;
-    for i in 0..count {
-        all = all & (byte(file, from + i) == 0);
-    }
-    all
+    let gap = to.saturating_sub(from);
+    let near = (from <= to) & (gap <= PADDING);
+    near && (0..gap).all(|i| byte(file, from + i) == 0)
 }
 
 // Is there only padding between two sections, and does the last end with the file?
 fn chained(file: &[u8]) -> bool
     ensures { result ≡ chained file.now 0 (sections - 1) }
 {
-    let mut k = 0;
-    while k < SECTIONS - 1 {
-        if !padding(file, section_end(file, k), section_offset(file, k + 1)) {
-            return false;
-        }
-        k += 1;
-    }
-    section_end(file, k) == file.len()
+    let last = SECTIONS - 1;
+    (0..last).all(|k| padding(file, section_end(file, k), section_offset(file, k + 1)))
+        && section_end(file, last) == file.len()
 }
 
 pub fn pairs_hold(file: &[u8], limits: Limits) -> bool

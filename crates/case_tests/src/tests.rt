@@ -1,16 +1,16 @@
 // The tests of rows 2 to 7.
-ghost use Rattle.std.specs.Prelude.{◌≡◌, ◌-◌, ◌≤◌, ◌<◌, length};
-ghost use Rattle.flc.specs.Sets.{for_some, first};
+ghost use Rattle.std.specs.Prelude.{◌≡◌, ◌≤◌, ◌<◌, length};
+ghost use Rattle.flc.specs.Sets.{for_some};
 ghost use Rattle.case_model.specs.Limits.{most_nodes};
 ghost use Rattle.case_model.specs.Case.{read, at};
 ghost use Rattle.case_model.specs.Rows.{rises, step_wrong, start_wrong, node_wrong, binds, binder_wrong, labels_hold, rule_holds, starts_rise, root_closed};
 ghost use Rattle.case_reader.specs.Read.{triple};
-ghost use Rattle.case_tests.specs.RowTests.{limits_of, wrong};
+ghost use Rattle.case_tests.specs.RowTests.{limits_of, lowest_of};
 
 use crate::limits::{Limits, NODES};
 use case_reader::{
     Kind, Triple, is_binder, masks, node, node_count, node_holds, root, section_size, start,
-    start_count, state_count, step,
+    start_count, state_count, step, step_count,
 };
 
 pub fn labels_hold(file: &[u8], limits: Limits) -> bool
@@ -18,13 +18,6 @@ pub fn labels_hold(file: &[u8], limits: Limits) -> bool
 {
     let n = state_count(file);
     (1 <= n) & (n <= limits.states)
-}
-
-// One less, and 0 for 0.
-fn before(i: usize) -> usize
-    ensures { result ≡ i - 1 }
-{
-    if 0 < i { i - 1 } else { 0 }
 }
 
 // Is t strictly before u?
@@ -39,8 +32,15 @@ fn step_wrong(file: &[u8], i: usize) -> bool
 {
     let n = state_count(file);
     let t = step(file, i);
-    let last = step(file, before(i));
+    let last = step(file, i.saturating_sub(1));
     !((t.0 < n) & (t.1 < Kind::ACTIONS) & (t.2 < n) & ((i == 0) | rises(last, t)))
+}
+
+// The lowest step that is wrong.
+pub fn first_wrong_step(file: &[u8]) -> Option<usize>
+    ensures { result ≡ lowest_of (step_wrong (read file.now)) (length (read file.now).steps) }
+{
+    (0..step_count(file)).find(|i| step_wrong(file, *i))
 }
 
 pub fn rule_holds(file: &[u8]) -> bool
@@ -55,7 +55,7 @@ fn start_wrong(file: &[u8], i: usize) -> bool
 {
     let n = state_count(file);
     let s = start(file, i);
-    let last = start(file, before(i));
+    let last = start(file, i.saturating_sub(1));
     !((s < n) & ((i == 0) | (last < s)))
 }
 
@@ -63,12 +63,7 @@ fn start_wrong(file: &[u8], i: usize) -> bool
 pub fn starts_rise(file: &[u8]) -> bool
     ensures { result ≡ starts_rise (read file.now) }
 {
-    let count = start_count(file);
-    let mut all = true;
-    for i in 0..count {
-        all = all & !start_wrong(file, i);
-    }
-    all
+    (0..start_count(file)).all(|i| !start_wrong(file, i))
 }
 
 fn node_wrong(file: &[u8], j: usize) -> bool
@@ -77,55 +72,33 @@ fn node_wrong(file: &[u8], j: usize) -> bool
     !node_holds(j, node(file, j))
 }
 
-// Does a node below j bind v?
-fn bound_below(file: &[u8], v: usize, j: usize) -> bool
-    ensures { result ≡ for_some j (λ i. binds (at (read file.now).nodes i) v) }
+// The lowest node that is wrong.
+pub fn first_wrong_node(file: &[u8]) -> Option<usize>
+    ensures { result ≡ lowest_of (node_wrong (read file.now)) (length (read file.now).nodes) }
 {
-    if j == 0 {
-        return false;
-    }
-    let i = j - 1;
+    (0..node_count(file)).find(|j| node_wrong(file, *j))
+}
+
+// Does node i bind v?
+fn binds(file: &[u8], i: usize, v: usize) -> bool
+    ensures { result ≡ binds (at (read file.now).nodes i) v }
+{
     let t = node(file, i);
-    bound_below(file, v, i) | (is_binder(t) & (t.1 == v))
+    is_binder(t) & (t.1 == v)
 }
 
 fn binder_wrong(file: &[u8], j: usize) -> bool
     ensures { result ≡ binder_wrong (read file.now) j }
 {
     let t = node(file, j);
-    is_binder(t) & bound_below(file, t.1, j)
+    is_binder(t) && (0..j).any(|i| binds(file, i, t.1))
 }
 
-// What a search goes through.
-#[derive(Clone, Copy)]
-pub enum Search {
-    Step,
-    Node,
-    Binder,
-}
-
-fn wrong(file: &[u8], search: Search, i: usize) -> bool
-    ensures { result ≡ wrong (read file.now) search i }
+// The lowest node that binds what a node below it binds.
+pub fn first_wrong_binder(file: &[u8]) -> Option<usize>
+    ensures { result ≡ lowest_of (binder_wrong (read file.now)) (length (read file.now).nodes) }
 {
-    match search {
-        Search::Step => step_wrong(file, i),
-        Search::Node => node_wrong(file, i),
-        Search::Binder => binder_wrong(file, i),
-    }
-}
-
-// The lowest of `count` places that is wrong, else `count`.
-pub fn first_wrong(file: &[u8], search: Search, count: usize) -> usize
-    ensures { result ≡ first (wrong (read file.now) search) 0 count }
-{
-    let mut i = 0;
-    while i < count {
-        if wrong(file, search, i) {
-            return i;
-        }
-        i += 1;
-    }
-    i
+    (0..node_count(file)).find(|j| binder_wrong(file, *j))
 }
 
 // The root's entry in the table of free variables is empty.

@@ -1,3 +1,4 @@
-pub mod Parts
+pub mod Copying
+pub mod Runs
 pub mod Pairs
 pub mod Packing

@@ -1,8 +1,8 @@
-// Internal: writes the sections of a case file, packed, to an output area; serves merging, rewriting and judge_kinds.
+// Internal: writes the sections of a case file, packed, to an output area; serves merging and rewriting.
 #![tactic(auto)]
 
-mod head;
-mod runs;
+mod output;
+mod sizes;
 
-pub use head::put_pairs;
-pub use runs::{put_byte, put_part, put_triple};
+pub use output::Output;
+pub use sizes::Sizes;

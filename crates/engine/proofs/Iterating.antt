@@ -8,7 +8,7 @@ use native.Mathlib.Decide.{ℕ_discrete}
 use native.Mathlib.Nat.{not-suc-le-zero}
 use native.Mathlib.Numerals.{add-one}
 use native.Mathlib.Omega.{arith}
-use lib.Dec.{eqb}
+use Rattle.std.specs.Prelude.{Option, Some, None}
 use Rattle.flc.specs.Formula.{Env, put}
 use Rattle.flc.specs.Nodes.{formula_at}
 use Rattle.flc.specs.Order.{Below, Agree, Good}
@@ -16,18 +16,23 @@ use Rattle.flc.specs.Iterates.{iterate}
 use Rattle.flc.proofs.Order.{agree-below, below_trans, good_agree}
 use Rattle.flc.proofs.FixedPoints.{Steady, steady_agree, iterate_good, iterate-rises}
 use Rattle.flc.proofs.Meanings.{put_two, put_good, mean_steady}
+use Rattle.case_plan.specs.declared.moves.Direction.{Direction}
 use Rattle.case_plan.specs.Plans.{Plan, table_of, nodes_of}
+use Rattle.case_plan.proofs.Directions.{direction_kind}
 use Rattle.engine.specs.declared.refresh.Binder.{Binder}
 use Rattle.engine.specs.Blocks.{block, Kept, env, Right}
-use Rattle.engine.specs.Moves.{anew, up, Grown}
+use Rattle.engine.specs.Moves.{Older, Grown}
 use Rattle.engine.specs.Dependence.{Stayed, Settled}
 use Rattle.engine.specs.Computing.{NotAt, body, wider, Roundable, Rounded, Iterable, Iterated, after}
 use Rattle.engine.proofs.Frames.{kept-none, kept_trans}
 use Rattle.engine.proofs.Refreshing.{env_same, ready_after}
 use Rattle.engine.proofs.Turns.{unseen, wider_keeps}
 
+some_same : {a b : Direction} → Some a ≡ Some b → a ≡ b
+some_same h = cc
+
 -- after r rounds, from w₀ to w
-pub record Turning (p : Plan) (w₀ w : List ℕ) (x : Binder) (act most r moved : ℕ) : Type 0 where
+pub record Turning (p : Plan) (w₀ w : List ℕ) (x : Binder) (act most r : ℕ) (moved : Option Direction) : Type 0 where
   pub few : r ≤ most
   pub kept : Kept p w₀ w (suc x.node)
   pub right : Right p (env p act w₀) act w x.node
@@ -37,7 +42,7 @@ pub record Turning (p : Plan) (w₀ w : List ℕ) (x : Binder) (act most r moved
   pub settled : Settled p act w x.node
   pub stayed : Stayed p (NotAt p x.node) w₀ w x.node
 
-module _ {p : Plan} {w₀ : List ℕ} {x : Binder} {act way : ℕ} (most : ℕ) (I : Iterable p w₀ x act way) where
+module _ {p : Plan} {w₀ : List ℕ} {x : Binder} {act : ℕ} {way : Direction} (most : ℕ) (I : Iterable p w₀ x act way) where
   abbrev ρ : Env
   ρ = env p act w₀
 
@@ -45,9 +50,9 @@ module _ {p : Plan} {w₀ : List ℕ} {x : Binder} {act way : ℕ} (most : ℕ) 
   steady = mean_steady (table_of p) (formula_at (nodes_of p) x.body) x.variable ρ I.binds.ready.good
 
   good : (r : ℕ) → Good p.states (after p w₀ x act r)
-  good r = iterate_good (eqb way up) steady I.rising r
+  good r = iterate_good I.binds.least steady I.rising r
 
-  pub turning_start : Turning p w₀ w₀ x act most 0 anew
+  pub turning_start : Turning p w₀ w₀ x act most 0 None
   unfolding iterate
   turning_start = record {
     few = omega arith;
@@ -55,12 +60,12 @@ module _ {p : Plan} {w₀ : List ℕ} {x : Binder} {act way : ℕ} (most : ℕ) 
     right = I.binds.right;
     now = λ q k. refl;
     changed = λ i l. absurd (not-suc-le-zero l);
-    older = λ l. absurd (not-suc-le-zero l);
+    older = λ d l. absurd (let o : ◌≡◌ {A = ℕ} 0 1 = cc in omega arith);
     settled = I.binds.settled;
     stayed = λ i l only q k. refl;
   }
 
-  module _ {w : List ℕ} {r moved : ℕ} (U : Turning p w₀ w x act most r moved) where
+  module _ {w : List ℕ} {r : ℕ} {moved : Option Direction} (U : Turning p w₀ w x act most r moved) where
     same : env p act w ≡ ρ
     same = env_same I.binds.ready U.kept (omega arith)
 
@@ -126,14 +131,14 @@ module _ {p : Plan} {w₀ : List ℕ} {x : Binder} {act way : ℕ} (most : ℕ) 
       moves : (change ≡ 0 → ⊥) → Agree p.states (after p w₀ x act r) (after p w₀ x act (suc r)) → ⊥
       moves n h = n (D.stands (λ q k. U.now q k ∙ h q k ∙ sym (now q k)))
 
-      rose : Below (eqb way up) p.states (block p w x.node) (block p z x.node)
+      rose : Below I.binds.least p.states (block p w x.node) (block p z x.node)
       rose =
-          let d = eqb way up in
+          let d = I.binds.least in
           let n = p.states in
           below_trans d n _ _ _ (agree-below d n _ _ U.now)
           (below_trans d n _ _ _ (iterate-rises d steady I.rising r) (agree-below d n _ _ (λ q k. sym (now q k))))
 
-      pub turning_next : r < most → (change ≡ 0 → ⊥) → Turning p w₀ z x act most (r + 1) way
+      pub turning_next : r < most → (change ≡ 0 → ⊥) → Turning p w₀ z x act most (r + 1) (Some way)
       turning_next l n = rw add-one (record {
         few = l;
         kept = kept;
@@ -143,12 +148,13 @@ module _ {p : Plan} {w₀ : List ℕ} {x : Binder} {act way : ℕ} (most : ℕ) 
           | yes e ↦ subst (λ i. Agree p.states (after p w₀ x act i) (after p w₀ x act (suc i)) → ⊥) (sym e) (moves n)
           | no e ↦ U.changed i (omega arith)
         ];
-        older = λ h. record {
-          env = σ;
-          good = put_good ρ x.variable I.binds.ready.good good_now;
-          below = λ u. put_two (Below (eqb way up) p.states) ρ ρ x.variable u _ _ rose (λ t q k s j m. m);
-          held = lower;
-        };
+        older = λ d h. subst (λ d. Older p.states d (put ρ x.variable (block p z x.node)) (λ σ. Right p σ (wider act x) z x.node))
+            (direction_kind I.binds.least d (sym I.along ∙ some_same h)) (record {
+              env = σ;
+              good = put_good ρ x.variable I.binds.ready.good good_now;
+              below = λ u. put_two (Below I.binds.least p.states) ρ ρ x.variable u _ _ rose (λ t q k s j m. m);
+              held = lower;
+            });
         settled = D.settled;
         stayed = stayed;
       })

@@ -19,6 +19,8 @@ use Rattle.flc.proofs.Tests.{either_left, either_right, either_use}
 use Rattle.flc.proofs.Meanings.{put_good, mean-free}
 use Rattle.case_model.specs.Limits.{variables}
 use Rattle.case_model.specs.Areas.{from}
+use Rattle.std.specs.Prelude.{Option}
+use Rattle.case_plan.specs.declared.moves.Direction.{Direction}
 use Rattle.case_plan.specs.Plans.{Plan, table_of, nodes_of, meaning, Within, Sound}
 use Rattle.case_plan.proofs.Scopes.{scope_frees, scope_body}
 use Rattle.tables.specs.Tables.{Advanced}
@@ -83,7 +85,7 @@ module _ {p : Plan} {w : List ℕ} {x : Binder} {act : ℕ} (B : Binds p w x act
   wider-env = env-wider p act x.variable w binds_low.0 ∙ ap (λ j. put (env p act w) x.variable (block p w j)) binder_home
 
 -- ---- the round
-module _ {p : Plan} {w : List ℕ} {x : Binder} {act moved : ℕ} (R : Roundable p w x act moved) where
+module _ {p : Plan} {w : List ℕ} {x : Binder} {act : ℕ} {moved : Option Direction} (R : Roundable p w x act moved) where
   B : Binds p w x act
   B = R.binds
 

@@ -18,3 +18,4 @@ pub mod Bisimilarity
 pub mod Likeness
 pub mod Packing
 pub mod Evaluation
+pub mod Chains

@@ -1,14 +1,15 @@
--- The number and values that docs/SPECIFICATION.md, clauses 3.2 and 7.1, has for each case of the enum that judging answers with.
-use Rattle.case_file.specs.EnumNumbers.{number}
+-- What judging answers with, as docs/SPECIFICATION.md, clauses 3.2 and 7.1, has it.
+use Rattle.std.specs.Prelude.{Result}
+use Rattle.case_file.specs.EnumNumbers.{reply}
+use Rattle.case_file.specs.declared.reason.Refusal.{Refusal}
 use Rattle.case_model.specs.Judging as model
-use Rattle.case_model.specs.Replies.{Reply, answers, refuses}
+use Rattle.case_model.specs.Replies.{Reply}
 use Rattle.judge.specs.declared.entry.Verdict.{Verdict}
-use Rattle.judge.specs.declared.entry.Judged.{Judged}
-use Rattle.judge.specs.declared.entry.Judged.TheVariants as judged
 
+-- clause 3.2: the root's function at the set, and the rounds
 abbrev pub answer : Verdict → model.Verdict
 answer v = record { set = v.set; rounds = v.rounds }
 
-abbrev pub judged_reply : Judged → Reply model.Verdict
-judged_reply (judged.Verdict v) = answers (answer v)
-judged_reply (judged.Refused r) = refuses (number r.reason) r.place
+-- clause 7.1: the reply of judging
+abbrev pub judged_reply : Result Verdict Refusal → Reply model.Verdict
+judged_reply = reply answer

@@ -3,4 +3,4 @@
 
 mod entry;
 
-pub use entry::{Judged, Verdict, judge};
+pub use entry::{Verdict, judge};

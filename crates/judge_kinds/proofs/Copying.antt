@@ -1,21 +1,19 @@
 -- How many kinds there are, where the nodes stand in a file whose pairs hold, and what an area has at its front to which the file was copied.
-use Prim.Native.Nat.{ℕ, ◌+◌, ◌*◌, ◌/◌, ◌≤◌, ◌<◌}
+use Prim.Native.Nat.{ℕ, ◌+◌, ◌*◌, ◌/◌, ◌<◌}
 use mathlib.Core.Bool.{true}
 use mathlib.Core.List.{List, ◌++◌}
 use mathlib.Core.Path.{◌≡◌, refl, ap, ◌∙◌}
 use native.Mathlib.Nat.{zero-add}
 use native.Mathlib.Omega.{arith}
-use lib.ListN.{length, get_or, drop, get_or-append}
+use lib.ListN.{length, get_or, get_or-append}
 use Rattle.flc.specs.Permutations.{is_permutation}
-use Rattle.case_model.specs.Areas.{Laid, Filled}
-use Rattle.case_model.specs.Bytes.{list_of, byte_at, offset, size, pairs_hold}
+use Rattle.case_model.specs.Areas.{Filled}
+use Rattle.case_model.specs.Bytes.{offset, size, pairs_hold}
 use Rattle.case_model.specs.Case.{read}
 use Rattle.case_model.specs.Kinds.{kinds}
 use Rattle.case_model.specs.Limits.{standard}
-use Rattle.case_model.proofs.Laying.{laid_whole}
-use Rattle.case_model.proofs.Lists.{length-list_of, get_or-list_of}
+use Rattle.case_model.proofs.Lists.{length-list_of}
 use Rattle.case_model.proofs.Sections.{within}
-use Rattle.case_writer.specs.Parts.{part}
 use Rattle.judge_kinds_model.specs.KindTables.{is_table}
 use Rattle.judge_kinds_model.specs.Exchange.{exchanged_byte}
 use Rattle.judge_kinds_model.proofs.Exchange.{none_yet}
@@ -33,17 +31,10 @@ module _ (f : List ℕ) where
   kind_inside e j h = omega (arith, within standard f e 2 (omega arith))
 
   -- the file at the front, and no node exchanged yet
-  pub copied : {w v : List ℕ} {end : ℕ} (t : List ℕ) → Laid w v 0 end (part f 0 (length f)) → end ≤ length w
-      → Filled v v 0 (length f) (exchanged_byte t f 0)
-  unfolding part
-  copied {w} {v} t a room =
-      let n : ℕ = length f in
-      let h : ℕ → ℕ = λ i. byte_at f (0 + i) in
-      record {
-        long = refl;
-        inside = λ x k.
-            ap (λ l. get_or l (0 + x) 0) (laid_whole a room) ∙ ap (λ i. get_or (list_of n h ++ drop (length (list_of n h)) w) i 0) (zero-add x)
-            ∙ get_or-append (list_of n h) _ 0 x (omega (arith, length-list_of n h)) ∙ get_or-list_of n h 0 x k ∙ ap (byte_at f) (zero-add x) ∙ none_yet t f x;
-        under = λ p l. refl;
-        over = λ p l. refl;
-      }
+  pub copied : (t rest : List ℕ) → Filled (f ++ rest) (f ++ rest) 0 (length f) (exchanged_byte t f 0)
+  copied t rest = record {
+    long = refl;
+    inside = λ x k. ap (λ i. get_or (f ++ rest) i 0) (zero-add x) ∙ get_or-append f rest 0 x k ∙ none_yet t f x;
+    under = λ p l. refl;
+    over = λ p l. refl;
+  }

@@ -7,7 +7,6 @@ ghost use Rattle.judge_kinds_model.specs.KindTables.{stands_for};
 ghost use Rattle.judge_kinds_model.specs.Exchange.{exchanged_byte, exchanged};
 
 use case_reader::{node_count, section_offset};
-use case_writer::put_part;
 
 // The kind that a byte stands for.
 fn stands_for(kinds: &[u8], kind: u8) -> u8
@@ -36,6 +35,6 @@ pub(crate) fn exchange(kinds: &[u8], file: &[u8], out: &mut [u8])
     ensures out_after { take (length file.now) out.new ≡ exchanged kinds.now file.now }
     ensures out_len_unchanged { length out.new ≡ length out.old }
 {
-    put_part(file, 0, file.len(), out, 0);
+    out[..file.len()].copy_from_slice(file);
     put_kinds(kinds, file, out);
 }

@@ -1,1 +1,2 @@
 pub mod Relations
+pub mod Counting

@@ -4,30 +4,30 @@ use mathlib.Core.Bool.{Bool, true, false}
 use mathlib.Core.List.{List, [], ◌∷◌, ◌++◌, append-nil}
 use mathlib.Core.Path.{◌≡◌, refl, sym, ap, ◌∙◌, subst}
 use Prim.Native.Nat.{ℕ, ◌+◌, ◌*◌, ◌/◌, ◌%◌, ◌≤◌, ◌<◌}
-use native.Mathlib.Decide.{ℕ_discrete}
 use native.Mathlib.Numerals.{add-one}
 use native.Mathlib.Omega.{arith}
 use borrow.Author.Tests.{eq-eqb, ne_eqb}
-use mir.Val.{bool_byte}
 use lib.Dec.{T}
 use lib.ListN.{length, get_or, replicate}
 use Rattle.flc.specs.Sets.{either, has}
 use Rattle.flc.proofs.Tests.{bool_ext}
-use Rattle.case_model.specs.Areas.{Laid}
 use Rattle.case_model.specs.Limits.{most_states}
 use Rattle.case_model.specs.Case.{Case, flat, listed}
 use Rattle.case_model.specs.Kinds.{Triple}
 use Rattle.case_model.specs.Merging.{moved, moved_steps, chosen, numbered, selected, is_step, in_order}
 use Rattle.case_model.specs.Valid.{ValidTable}
 use Rattle.case_model.proofs.Codec.{length-flat, flat_append}
-use Rattle.case_model.proofs.Laying.{laid_after}
-use Rattle.case_model.proofs.Selected.{selected_ext, selected_more, selected-counted, selected_few, selected_room}
+use Rattle.case_model.proofs.Selected.{selected_ext, selected_more, selected_few, selected_room}
 use Rattle.case_model.proofs.Steps.{listed_in}
 use Rattle.case_model.proofs.StepOrder.{listed-in_order}
 use Rattle.case_model.proofs.MovedStates.{moved_steps_use, moved_steps_mk}
-use Rattle.case_reader.specs.StepRows.{relation, StepRows}
+use Rattle.case_reader.specs.StepRows.{relation, marked, StepRows}
 use Rattle.case_reader.proofs.Marking.{marks_none, marks_more}
-use Rattle.merged_steps.specs.Relation.{carried}
+use Rattle.case_reader.specs.Read.{triple}
+use Rattle.case_reader.specs.declared.parts.Triple as code
+use Rattle.case_writer.specs.Writing.{Writes}
+use Rattle.case_writer.specs.declared.output.Output.{Output}
+use Rattle.case_writer.proofs.Runs.{writes_none, writes_after, writes_as}
 
 -- ---- lists of the same steps
 abbrev Same : List Triple → List Triple → Type 0
@@ -48,6 +48,9 @@ unfolding listed
 same_behind [] y s a t = refl
 same_behind (x ∷ l) y s a t = either_swap _ _ (listed l s a t) ∙ ap (either _) (same_behind l y s a t)
 
+pub numbered_is : {t : code.Triple} (x : ℕ) → (t.0 ≡ x / 128) × (t.1 ≡ x / 16 % 8) × (t.2 ≡ x % 16) → triple t ≡ numbered x
+numbered_is x e = cc
+
 module _ (k r : ℕ) where
   moved_use : (l m : List Triple) → Same l m → (u a w : ℕ) → T (listed (moved_steps k r l) u a w) → T (listed (moved_steps k r m) u a w)
   moved_use l m e u a w h =
@@ -62,20 +65,29 @@ module _ (k r : ℕ) where
   unfolding moved_steps in_order selected
   carried_none step = marks_none false []
 
-  carried_more : (is : Bool) (y : Triple) (l : List Triple) {rows : List ℕ} → StepRows (moved_steps k r l) rows
-      → StepRows (moved_steps k r (l ++ chosen is y)) (carried k r is y rows)
-  unfolding moved_steps
-  carried_more false y l R = rw (append-nil l) R
-  carried_more true y l R = steps_same (moved_same (y ∷ l) (l ++ (y ∷ [])) (same_behind l y)) (elim (ℕ_discrete y.0 r) [
-    | yes e ↦ rw (eq-eqb y.0 r e) R
-    | no e ↦ rw (ne_eqb y.0 r e) (marks_more R (moved k r y.0, y.1, moved k r y.2))
-  ])
+  -- one turn, by whether the triple is a step and which state it leaves
+  module _ (step : ℕ → ℕ → ℕ → Bool) (x : ℕ) {rows : List ℕ} (R : StepRows (moved_steps k r (in_order x step)) rows) where
+    pub no_step : is_step step x ≡ false → StepRows (moved_steps k r (in_order (x + 1) step)) rows
+    unfolding in_order selected
+    no_step e = rw (add-one x, e, append-nil (in_order x step)) R
 
-  -- one turn
-  pub carried-turn : (step : ℕ → ℕ → ℕ → Bool) (x : ℕ) (is : Bool) {rows next : List ℕ} → StepRows (moved_steps k r (in_order x step)) rows
-      → is ≡ is_step step x → next ≡ carried k r is (numbered x) rows → StepRows (moved_steps k r (in_order (x + 1) step)) next
-  unfolding in_order selected
-  carried-turn step x is R e q = rw (add-one x, q, ← e) (carried_more is (numbered x) (in_order x step) R)
+    module _ (e : is_step step x ≡ true) (t : code.Triple) (n : triple t ≡ numbered x) where
+      added : {next : List ℕ} → StepRows (moved_steps k r (numbered x ∷ in_order x step)) next → StepRows (moved_steps k r (in_order (x + 1) step)) next
+      unfolding in_order selected
+      added P =
+          rw (add-one x, e)
+          (steps_same (moved_same (numbered x ∷ in_order x step) (in_order x step ++ (numbered x ∷ [])) (same_behind (in_order x step) (numbered x))) P)
+
+      pub step_dropped : t.0 ≡ r → StepRows (moved_steps k r (in_order (x + 1) step)) rows
+      unfolding moved_steps
+      step_dropped q = added (rw (eq-eqb (numbered x).0 r (omega (arith, ap (λ (t : Triple). t.0) n))) R)
+
+      pub step_carried : (t.0 ≡ r → ⊥) → StepRows (moved_steps k r (in_order (x + 1) step)) (marked rows (moved k r t.0, t.1, moved k r t.2))
+      unfolding moved_steps
+      step_carried q =
+          added (subst (λ (y : Triple). StepRows (moved_steps k r (numbered x ∷ in_order x step)) (marked rows (moved k r y.0, y.1, moved k r y.2))) (sym n)
+          (rw (ne_eqb (numbered x).0 r (λ z. q (ap (λ (t : Triple). t.0) n ∙ z)))
+          (marks_more R (moved k r (numbered x).0, (numbered x).1, moved k r (numbered x).2))))
 
 -- ---- the steps in order
 pub rows_order : {l : List Triple} {rows : List ℕ} → StepRows l rows → in_order 2048 (relation rows) ≡ in_order 2048 (listed l)
@@ -100,33 +112,22 @@ pub order_few : (step : ℕ → ℕ → ℕ → Bool) (x : ℕ) → length (in_o
 unfolding in_order
 order_few step = selected_few (is_step step) numbered
 
--- one turn of counting
-pub counted : (step : ℕ → ℕ → ℕ → Bool) (x n : ℕ) (b : Bool) → n ≡ length (in_order x step) → b ≡ is_step step x → n + bool_byte b ≡ length (in_order (x + 1) step)
-unfolding in_order
-counted step = selected-counted (is_step step) numbered
-
-pub counted_few : (step : ℕ → ℕ → ℕ → Bool) (x n : ℕ) (b : Bool) → n ≡ length (in_order x step) → b ≡ is_step step x → n + bool_byte b ≤ x + 1
-counted_few step x n b p q = rw (counted step x n b p q) (order_few step (x + 1))
-
 -- ---- one turn of writing, for which there is room
-pub laid_turn : (step : ℕ → ℕ → ℕ → Bool) (x : ℕ) (b : Bool) {w v u : List ℕ} {base mid end : ℕ} → Laid w v base mid (flat (in_order x step))
-    → b ≡ is_step step x → Laid v u mid end (flat (chosen b (numbered x))) → Laid w u base end (flat (in_order (x + 1) step))
-unfolding in_order
-laid_turn step x b {v = v} {u} {mid = mid} {end} p q e =
-    rw (selected_more (is_step step) numbered x, flat_append (in_order x step)) (laid_after p (subst (λ z. Laid v u mid end (flat (chosen z (numbered x)))) q e))
+module _ (step : ℕ → ℕ → ℕ → Bool) (x : ℕ) {o p : Output} (w : Writes o p (flat (in_order x step))) where
+  turn : (b : Bool) {q : Output} → is_step step x ≡ b → Writes p q (flat (chosen b (numbered x))) → Writes o q (flat (in_order (x + 1) step))
+  unfolding in_order
+  turn b {q} e v =
+      rw (selected_more (is_step step) numbered x, flat_append (in_order x step), e) (writes_after w v)
 
-pub turn_room : (step : ℕ → ℕ → ℕ → Bool) (x : ℕ) (b : Bool) {w v : List ℕ} {base mid : ℕ} → x < 2048 → base + 3 * length (in_order 2048 step) ≤ length w
-    → Laid w v base mid (flat (in_order x step)) → b ≡ is_step step x → mid + 3 * length (chosen b (numbered x)) ≤ length v
-unfolding in_order
-turn_room step x b h room p q =
-    let e : length (chosen b (numbered x)) ≡ length (chosen (is_step step x) (numbered x)) = ap (λ z. length (chosen z (numbered x))) q in
-    omega (arith, selected_room (is_step step) numbered x 2048 h, length-flat (in_order x step))
+  pub step_written : {q : Output} (t : code.Triple) → is_step step x ≡ true → triple t ≡ numbered x → Writes p q (flat (triple t ∷ []))
+      → Writes o q (flat (in_order (x + 1) step))
+  step_written t e n v = turn true e (writes_as (ap (λ (t : Triple). flat (t ∷ [])) n) v)
 
--- where the steps end
-pub laid_ends : (step : ℕ → ℕ → ℕ → Bool) {w v : List ℕ} {base end : ℕ} → Laid w v base end (flat (in_order 2048 step))
-    → end ≡ base + 3 * length (in_order 2048 step)
-laid_ends step p = omega (arith, p.ends, length-flat (in_order 2048 step))
+  pub none_written : is_step step x ≡ false → Writes o p (flat (in_order (x + 1) step))
+  none_written e = turn false e (writes_none p)
 
--- room for a step
-pub room : (b : Bool) (x at : ℕ) {n : ℕ} → b ≡ true → at + 3 * length (chosen b (numbered x)) ≤ n → at + 3 ≤ n
-room b x at e h = rw e at h
+  pub turn_room : x < 2048 → o.at + 3 * length (in_order 2048 step) ≤ length o.area.now → is_step step x ≡ true → p.at + 3 ≤ length p.area.now
+  unfolding in_order
+  turn_room h room e =
+      let n : length (chosen (is_step step x) (numbered x)) ≡ 1 = ap (λ b. length (chosen b (numbered x))) e in
+      omega (arith, w.laid.ends, w.laid.long, selected_room (is_step step) numbered x 2048 h, length-flat (in_order x step))

@@ -2,11 +2,10 @@
 use Prim.Native.Nat.{suc}
 use mathlib.Core.Path.{◌≡◌, ap, ap₂, sym, subst, ◌∙◌}
 use native.Mathlib.Numerals.{add-one}
-use native.Mathlib.Omega.{arith}
 use Rattle.case_model.specs.Case.{read, node_at}
 use Rattle.case_model.specs.Reach.{ReachSet}
 use Rattle.case_reader.specs.NodeSets.{with_node, spread}
-use Rattle.case_reader.proofs.Reaching.{root_place, reach_set}
+use Rattle.case_reader.proofs.Reaching.{reach_set}
 use Rattle.case_reader.proofs.reach.reached.Goals as goal
 
 pub returns-then-top-lt64 : goal.returns-then-top-lt64
@@ -16,6 +15,3 @@ returns-then-top-lt64 c = λ valid.
     let first : c.with.result ≡ with_node 0 f.root = c.with.ensures ∙ ap (with_node 0) top in
     let turns = add-one c.root-top.result ∙ ap (λ k. suc k) top in
     subst (ReachSet f) (sym (c.spread.ensures ∙ ap₂ (spread (node_at f)) turns first)) (reach_set valid)
-
-pub returns : goal.returns
-returns c = λ valid. absurd (omega (arith, c.if-top-lt64.false, c.root-top.ensures.is, root_place valid))

@@ -3,7 +3,7 @@ use native.Mathlib.Omega.{arith}
 use Prim.Native.Nat.{ℕ, ◌%◌, ◌^◌, ◌≤◌}
 use mathlib.Core.Path.{◌≡◌, sym}
 use native.Mathlib.Nat.{one-mul, mod-eq_of_lt}
-use lib.Pow.{pow_pos, pow_mono}
+use lib.Pow.{pow_mono}
 use Rattle.flc.proofs.Masks.{set_all}
 use Rattle.case_model.specs.Limits.{most_states}
 use Rattle.case_reader.proofs.states.all_states.Goals as goal
@@ -11,17 +11,5 @@ use Rattle.case_reader.proofs.states.all_states.Goals as goal
 shifted : (n : ℕ) → n ≤ most_states → 2 ^ n % 2 ^ 64 ≡ 2 ^ n
 shifted n few = mod-eq_of_lt (omega (arith, pow_mono {i = n} {j = 16} few))
 
-pub overflow_sub-result : goal.overflow_sub-result
-overflow_sub-result c = rw (one-mul, shifted _ c.if-n-le16.true) (pow_pos c.args.n)
-
-pub overflow_cast-result : goal.overflow_cast-result
-overflow_cast-result c =
-    let n = c.args.n in
-    let most = pow_mono {i = n} {j = 16} c.if-n-le16.true in
-    rw (one-mul, shifted _ c.if-n-le16.true) (record { fits = omega (arith, most, pow_pos n) })
-
 pub returns-then-n-le16 : goal.returns-then-n-le16
 returns-then-n-le16 c = λ few. rw (one-mul, shifted _ few) (sym (set_all c.args.n))
-
-pub returns-else-n-le16 : goal.returns-else-n-le16
-returns-else-n-le16 c = λ few. absurd (omega arith)

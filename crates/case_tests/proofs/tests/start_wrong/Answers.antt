@@ -4,5 +4,5 @@ use Rattle.case_tests.proofs.tests.start_wrong.Goals as goal
 
 pub returns : goal.returns
 returns c =
-    let last = rw c.before-2.ensures at c.start-last.ensures.is in
+    let last = rw c.saturating_sub.ensures at c.start-last.ensures.is in
     rw (c.state_count-n.ensures.is, ← c.start-s.ensures.is, ← last) refl

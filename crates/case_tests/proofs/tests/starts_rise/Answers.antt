@@ -1,25 +1,17 @@
--- `case_tests::tests::starts_rise` meets its contract: after i turns the first i start states have been tested.
+-- `case_tests::tests::starts_rise` meets its contract: `all` tests every start state.
+use borrow.Author.Rules.{rules}
 use mathlib.Core.Bool.{not}
-use mathlib.Core.Path.{◌≡◌, refl, ap, ap₂}
-use native.Mathlib.Numerals.{add-one}
-use native.Mathlib.Omega.{arith}
-use lib.ListN.{length}
-use Rattle.flc.specs.Sets.{both, for_all}
+use mathlib.Core.Path.{ap, ◌∙◌}
+use Prim.Native.Nat.{ℕ}
+use mathlib.Core.Bool.{Bool}
+use Rattle.flc.specs.Sets.{for_all}
+use Rattle.flc.proofs.Chains.{all_below}
 use Rattle.case_model.specs.Case.{read}
+use Rattle.case_model.specs.Rows.{start_wrong}
 use Rattle.case_tests.proofs.tests.starts_rise.Goals as goal
-
-pub loop-i-init : goal.loop-i-init
-unfolding for_all
-loop-i-init c = (refl, omega arith, c.start_count-count.ensures.is)
-
-pub loop-i-preserved : goal.loop-i-preserved
-unfolding for_all both
-loop-i-preserved c =
-    let (told, few, count) = c.loop-i.invariant in
-    (rw (add-one c.loop-i.i) (ap₂ both told (ap not c.start_wrong.ensures)), omega arith, count)
 
 pub returns : goal.returns
 returns c =
-    let (told, few, count) = c.loop-i.invariant in
-    let e : c.loop-i.i ≡ length (read c.args.file.now).starts = omega arith in
-    rw e at told
+    let right : ℕ → Bool = λ i. not (start_wrong (read c.args.file.now) i) in
+    all_below c.all.result c.start_count.result right c.all.ensures.ran (λ x b q k. search rules)
+    ∙ ap (λ n. for_all n right) c.start_count.ensures.is

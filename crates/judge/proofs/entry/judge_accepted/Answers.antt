@@ -14,6 +14,7 @@ use Rattle.case_model.specs.Limits.{standard}
 use Rattle.case_model.specs.Replies.{answers, Counts, Accepted}
 use Rattle.case_model.proofs.Judged.{judging_answers}
 use Rattle.case_model.proofs.Valid.{accepted_valid}
+use Rattle.case_file.proofs.Refusals.{of_reason}
 use Rattle.engine.proofs.Asking.{asked}
 use Rattle.judge.proofs.Answering.{judging_beyond, judging_short, plan_verdict_lem}
 use Rattle.judge.proofs.entry.judge_accepted.Goals as goal
@@ -30,37 +31,40 @@ area_tested words a e = sym (e ∙ ap₂ (λ m n. leb (2 * m * 2 ^ n) words) a.n
 inside : {f : List ℕ} {n : Counts} {b : Bool} (x : ℕ) → Accepted standard f n → b ≡ ltb x (2 ^ n.states) → b ≡ true → x < 2 ^ length (read f).labels
 inside x a e t = ltb-true _ _ (set_tested x a e ∙ t)
 
-pub returns-then-not-inside : goal.returns-then-not-inside
-returns-then-not-inside c =
+pub returns-then-not-has_set : goal.returns-then-not-has_set
+returns-then-not-has_set c =
     let w = c.args.work.now in
-    let tested = set_tested c.args.set c.requires c.has_set-inside.ensures in
-    let j = judging_beyond c.args.file.now c.args.set (length w) c.requires.rows (tested ∙ c.if-not-inside.true) in
-    record { result_value = sym j; work_after = subst (λ R. w ≡ cleared R w) (sym j) refl }
+    let a = c.args.case.accepted in
+    let tested = set_tested c.args.set a c.has_set.ensures in
+    let j = judging_beyond c.args.case.file.now c.args.set (length w) a.rows (tested ∙ c.if-not-has_set.true) in
+    record { result_value = of_reason _ c.into.ensures ∙ sym j; work_after = subst (λ R. w ≡ cleared R w) (sym j) refl }
 
-pub returns-then-not-enough : goal.returns-then-not-enough
-returns-then-not-enough c =
+pub returns-then-not-has_area : goal.returns-then-not-has_area
+returns-then-not-has_area c =
     let w = c.args.work.now in
-    let tested = area_tested (length c.args.work.now) c.requires c.has_area-enough.ensures in
-    let j = judging_short c.args.file.now c.args.set (length w) c.requires.rows (inside c.args.set c.requires c.has_set-inside.ensures c.if-not-inside.false)
-    (tested ∙ c.if-not-enough.true) in
-    record { result_value = sym j; work_after = subst (λ R. w ≡ cleared R w) (sym j) refl }
+    let a = c.args.case.accepted in
+    let tested = area_tested (length c.args.work.now) a c.has_area.ensures in
+    let j = judging_short c.args.case.file.now c.args.set (length w) a.rows (inside c.args.set a c.has_set.ensures c.if-not-has_set.false)
+    (tested ∙ c.if-not-has_area.true) in
+    record { result_value = of_reason _ c.into-then-not-has_area.ensures ∙ sym j; work_after = subst (λ R. w ≡ cleared R w) (sym j) refl }
 
 pub plan-plan-requires : goal.plan-plan-requires
-plan-plan-requires c = accepted_valid standard _ c.requires.rows
+plan-plan-requires c = rw c.file.ensures (accepted_valid standard _ c.args.case.accepted.rows)
 
 pub answer-verdict-requires : goal.answer-verdict-requires
 answer-verdict-requires c =
-    asked c.plan-plan.ensures (inside c.args.set c.requires c.has_set-inside.ensures c.if-not-inside.false)
-    (leb-true _ _ (area_tested (length c.args.work.now) c.requires c.has_area-enough.ensures ∙ c.if-not-enough.false))
+    let a = c.args.case.accepted in
+    asked (rw c.file.ensures at c.plan-plan.ensures) (inside c.args.set a c.has_set.ensures c.if-not-has_set.false)
+    (leb-true _ _ (area_tested (length c.args.work.now) a c.has_area.ensures ∙ c.if-not-has_area.false))
 
 pub returns : goal.returns
 returns c =
     let w = c.args.work.now in
+    let a = c.args.case.accepted in
     let long : length c.answer-verdict.new.work ≡ length w = search rules in
-    let room = ap (λ b. unless b 9 0) (area_tested (length c.args.work.now) c.requires c.has_area-enough.ensures ∙ c.if-not-enough.false) in
-    let j = judging_answers c.args.file.now c.args.set (length w) c.requires.rows
-    (inside c.args.set c.requires c.has_set-inside.ensures c.if-not-inside.false) room in
+    let room = ap (λ b. unless b 9 0) (area_tested (length c.args.work.now) a c.has_area.ensures ∙ c.if-not-has_area.false) in
+    let j = judging_answers c.args.case.file.now c.args.set (length w) a.rows (inside c.args.set a c.has_set.ensures c.if-not-has_set.false) room in
     record {
-      result_value = ap answers (c.answer-verdict.ensures ∙ plan_verdict_lem c.plan-plan.ensures c.args.set) ∙ sym j;
+      result_value = ap answers (c.answer-verdict.ensures ∙ plan_verdict_lem (rw c.file.ensures at c.plan-plan.ensures) c.args.set) ∙ sym j;
       work_after = subst (λ R. c.clear.new.work ≡ cleared R w) (sym j) (c.clear.ensures ∙ ap (λ n. replicate n 0) long);
     }

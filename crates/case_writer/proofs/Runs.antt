@@ -1,0 +1,16 @@
+-- Runs of bytes written to an output one behind the other are one run.
+use mathlib.Core.List.{List, [], ◌++◌}
+use mathlib.Core.Path.{◌≡◌, refl, ◌∙◌, subst}
+use Prim.Native.Nat.{ℕ}
+use Rattle.case_model.proofs.Laying.{laid_none, laid_after}
+use Rattle.case_writer.specs.Writing.{Writes}
+use Rattle.case_writer.specs.declared.output.Output.{Output}
+
+pub writes_none : (o : Output) → Writes o o []
+writes_none o = record { same_area = refl; laid = laid_none o.area.now o.at }
+
+pub writes_after : {o p q : Output} {k l : List ℕ} → Writes o p k → Writes p q l → Writes o q (k ++ l)
+writes_after a b = record { same_area = b.same_area ∙ a.same_area; laid = laid_after a.laid b.laid }
+
+pub writes_as : {o p : Output} {k l : List ℕ} → k ≡ l → Writes o p k → Writes o p l
+writes_as {o} {p} e a = subst (Writes o p) e a

@@ -1,0 +1,73 @@
+// An area that runs of bytes are written to, each behind the one before.
+ghost use Rattle.std.specs.Prelude.{◌≡◌, [], ◌∷◌, ◌+◌, ◌*◌, ◌≤◌, ◌<◌, length};
+ghost use Rattle.case_model.specs.Bytes.{word, pairs};
+ghost use Rattle.case_model.specs.Case.{flat};
+ghost use Rattle.case_reader.specs.Read.{triple};
+ghost use Rattle.case_writer.specs.Writing.{Writes, total};
+
+use case_reader::Triple;
+
+// The area, and how many of its bytes are written.
+#[derive(Drop)]
+pub struct Output<'a> {
+    area: &'a mut [u8],
+    at: usize,
+}
+
+impl<'a> Output<'a> {
+    pub fn new(area: &'a mut [u8]) -> Output<'a>
+        ensures same_area { result.area.ghost_name ≡ area.entry.ghost_name }
+        ensures area_value { result.area.now ≡ area.old }
+        ensures written { result.at ≡ 0 }
+    {
+        Output { area, at: 0 }
+    }
+
+    pub fn part(&mut self, bytes: &[u8])
+        requires { self.old.at + length bytes.now ≤ length self.old.area.now }
+        ensures { Writes self.old self.new bytes.now }
+    {
+        let end = self.at + bytes.len();
+        self.area[self.at..end].copy_from_slice(bytes);
+        self.at = end;
+    }
+
+    pub fn byte(&mut self, x: u8)
+        requires { self.old.at + 1 ≤ length self.old.area.now }
+        ensures { Writes self.old self.new (x ∷ []) }
+    {
+        self.area[self.at] = x;
+        self.at += 1;
+    }
+
+    // A number as two bytes, low byte first.
+    fn word(&mut self, x: u16)
+        requires { self.old.at + 2 ≤ length self.old.area.now }
+        ensures { Writes self.old self.new (word x) }
+    {
+        self.part(&x.to_le_bytes());
+    }
+
+    // A step or a node.
+    pub fn triple(&mut self, t: Triple)
+        requires bytes { (t.0 < 256) × (t.1 < 256) × (t.2 < 256) }
+        requires room { self.old.at + 3 ≤ length self.old.area.now }
+        ensures { Writes self.old self.new (flat (triple t ∷ [])) }
+    {
+        self.part(&[t.0 as u8, t.1 as u8, t.2 as u8]);
+    }
+
+    // The pairs of sections of such lengths, where the sections follow the head end to end. Every offset and length fits two bytes because the whole file does.
+    pub fn pairs(&mut self, sizes: &[usize])
+        requires short { 4 * length sizes.now + total sizes.now < 65536 }
+        requires room { self.old.at + 4 * length sizes.now ≤ length self.old.area.now }
+        ensures { Writes self.old self.new (pairs (4 * length sizes.now) sizes.now) }
+    {
+        let mut offset = 4 * sizes.len();
+        for &size in sizes {
+            self.word(offset as u16);
+            self.word(size as u16);
+            offset += size;
+        }
+    }
+}
