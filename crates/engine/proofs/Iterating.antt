@@ -1,6 +1,7 @@
 -- Rounds of a binder: its block goes through the iterates of the body, from whatever table they rise from.
 -- After a round only the binder's table has moved, and it rose: so the lower nodes are those of functions below.
 use Prim.Native.Nat.{ℕ, suc, ◌+◌, ◌≤◌, ◌<◌}
+use mathlib.Core.Bool.{Bool, true, false}
 use mathlib.Core.List.{List}
 use mathlib.Core.Logic.{inl, inr}
 use mathlib.Core.Path.{◌≡◌, refl, sym, ap, ◌∙◌, subst}
@@ -84,7 +85,7 @@ module _ {p : Plan} {w₀ : List ℕ} {x : Binder} {act : ℕ} {way : Direction}
           (sym same) U.older;
     }
 
-    module _ {z : List ℕ} {change : ℕ} (D : Rounded p w z x act change) where
+    module _ {z : List ℕ} {changed : Bool} (D : Rounded p w z x act changed) where
       -- the functions of this round
       abbrev σ : Env
       σ = put ρ x.variable (block p w x.node)
@@ -112,10 +113,10 @@ module _ {p : Plan} {w₀ : List ℕ} {x : Binder} {act : ℕ} {way : Direction}
           ∙ steady_agree steady (block p w x.node) (after p w₀ x act r) good_now (good r) U.now q k
 
       -- a round that changes nothing
-      stood : change ≡ 0 → Agree p.states (after p w₀ x act r) (after p w₀ x act (suc r))
+      stood : changed ≡ false → Agree p.states (after p w₀ x act r) (after p w₀ x act (suc r))
       stood e q k = sym (U.now q k) ∙ D.stood e q k ∙ now q k
 
-      pub iterated_still : change ≡ 0 → Iterated p w₀ z x act most r
+      pub iterated_still : changed ≡ false → Iterated p w₀ z x act most r
       iterated_still e = record {
         few = U.few;
         kept = kept;
@@ -128,8 +129,8 @@ module _ {p : Plan} {w₀ : List ℕ} {x : Binder} {act : ℕ} {way : Direction}
       }
 
       -- and one that does
-      moves : (change ≡ 0 → ⊥) → Agree p.states (after p w₀ x act r) (after p w₀ x act (suc r)) → ⊥
-      moves n h = n (D.stands (λ q k. U.now q k ∙ h q k ∙ sym (now q k)))
+      moves : changed ≡ true → Agree p.states (after p w₀ x act r) (after p w₀ x act (suc r)) → ⊥
+      moves n h = let e : changed ≡ false = D.stands (λ q k. U.now q k ∙ h q k ∙ sym (now q k)) in cc
 
       rose : Below I.binds.least p.states (block p w x.node) (block p z x.node)
       rose =
@@ -138,7 +139,7 @@ module _ {p : Plan} {w₀ : List ℕ} {x : Binder} {act : ℕ} {way : Direction}
           below_trans d n _ _ _ (agree-below d n _ _ U.now)
           (below_trans d n _ _ _ (iterate-rises d steady I.rising r) (agree-below d n _ _ (λ q k. sym (now q k))))
 
-      pub turning_next : r < most → (change ≡ 0 → ⊥) → Turning p w₀ z x act most (r + 1) (Some way)
+      pub turning_next : r < most → changed ≡ true → Turning p w₀ z x act most (r + 1) (Some way)
       turning_next l n = rw add-one (record {
         few = l;
         kept = kept;

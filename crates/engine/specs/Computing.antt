@@ -1,5 +1,5 @@
 -- What the recursion over nodes asks for and leaves. The functions of the active variables are read off their binders' blocks, which no call changes.
-use Rattle.std.specs.Prelude.{ℕ, suc, ◌*◌, ◌^◌, ◌≤◌, ◌<◌, Bool, List, ◌⊎◌, ◌≡◌, T, Option, None, length}
+use Rattle.std.specs.Prelude.{ℕ, suc, ◌*◌, ◌^◌, ◌≤◌, ◌<◌, Bool, false, List, ◌⊎◌, ◌≡◌, T, Option, None, length}
 use Rattle.std.specs.Int.Bits.{bit_or}
 use Rattle.flc.specs.Sets.{has}
 use Rattle.flc.specs.Functions.{Fun, rounds}
@@ -95,16 +95,16 @@ pub record Roundable (p : Plan) (w : List ℕ) (x : Binder) (act : ℕ) (moved :
   pub good : Good p.states (block p w x.node)
   pub older : Grown p.states moved (put (env p act w) x.variable (block p w x.node)) (λ σ. Right p σ (wider act x) w x.node)
 
--- to what the body makes of it; the nodes below are those of the table before, and the change is 0 just if that is the table after, with which
+-- to what the body makes of it; the nodes below are those of the table before, and nothing changed just if that is the table after, with which
 -- they then are right
-pub record Rounded (p : Plan) (w v : List ℕ) (x : Binder) (act change : ℕ) : Type 0 where
+pub record Rounded (p : Plan) (w v : List ℕ) (x : Binder) (act : ℕ) (changed : Bool) : Type 0 where
   pub kept : Kept p w v (suc x.node)
   pub next : Agree p.states (block p v x.node) (body p (env p act w) x (block p w x.node))
   pub lower : Right p (put (env p act w) x.variable (block p w x.node)) (wider act x) v x.node
-  pub stood : change ≡ 0 → Agree p.states (block p w x.node) (block p v x.node)
-  pub stands : Agree p.states (block p w x.node) (block p v x.node) → change ≡ 0
+  pub stood : changed ≡ false → Agree p.states (block p w x.node) (block p v x.node)
+  pub stands : Agree p.states (block p w x.node) (block p v x.node) → changed ≡ false
   pub settled : Settled p act v x.node
-  pub closed : change ≡ 0 → Settled p (wider act x) v x.node
+  pub closed : changed ≡ false → Settled p (wider act x) v x.node
   pub stayed : Stayed p (NotAt p x.node) w v x.node
 
 -- round after round, from a table that moves in the direction `way`, that of the binder

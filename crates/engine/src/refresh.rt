@@ -87,8 +87,8 @@ pub(crate) fn rounds(
 {
     let mut moved = None;
     for r in 0..most {
-        let change = round(work, plan, x, act, moved);
-        if change == 0 {
+        let changed = round(work, plan, x, act, moved);
+        if !changed {
             return r;
         }
         moved = Some(way);
@@ -96,8 +96,8 @@ pub(crate) fn rounds(
     most
 }
 
-// One round of a binder: the nodes that depend on its variable are computed, then its table becomes its body's. The answer is 0 just if that
-// changed nothing.
+// One round of a binder: the nodes that depend on its variable are computed, then its table becomes its body's. Did that change
+// anything?
 // Why it is right: the nodes below are computed with the binder's table for its variable, so that the body's table is what the body makes of it.
 #[cycle(compute_refresh_round_rounds)]
 pub(crate) fn round(
@@ -106,7 +106,7 @@ pub(crate) fn round(
     x: Binder,
     act: u32,
     moved: Option<Direction>,
-) -> u16
+) -> bool
     requires { Roundable (decoded plan.now) work.old x act moved }
     ensures { Rounded (decoded plan.now) work.old work.new x act result }
 {

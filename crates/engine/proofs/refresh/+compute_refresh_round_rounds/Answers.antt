@@ -132,17 +132,17 @@ round-returns t c =
 pub rounds-loop-r-init : goal.rounds-loop-r-init
 rounds-loop-r-init t c = turning_start c.args.most c.requires
 
-pub rounds-round-change-requires : goal.rounds-round-change-requires
-rounds-round-change-requires t c =
+pub rounds-round-changed-requires : goal.rounds-round-changed-requires
+rounds-round-changed-requires t c =
     (omega (arith, c.decreases), turning_roundable c.args.most c.requires c.loop-r.invariant)
 
-pub rounds-returns-then-change-eq0 : goal.rounds-returns-then-change-eq0
-rounds-returns-then-change-eq0 t c =
-    iterated_still c.args.most c.requires c.loop-r.invariant c.round-change.ensures c.if-change-eq0.true
+pub rounds-returns-then-not-changed : goal.rounds-returns-then-not-changed
+rounds-returns-then-not-changed t c =
+    iterated_still c.args.most c.requires c.loop-r.invariant c.round-changed.ensures c.if-not-changed.true
 
 pub rounds-loop-r-preserved : goal.rounds-loop-r-preserved
 rounds-loop-r-preserved t c =
-    turning_next c.args.most c.requires c.loop-r.invariant c.round-change.ensures (omega (arith, c.loop-r-test.true)) c.if-change-eq0.false
+    turning_next c.args.most c.requires c.loop-r.invariant c.round-changed.ensures (omega (arith, c.loop-r-test.true)) c.if-not-changed.false
 
 pub rounds-returns : goal.rounds-returns
 rounds-returns t c =
