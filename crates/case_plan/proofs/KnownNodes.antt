@@ -1,9 +1,8 @@
 -- A node of a plan, once the code knows its kind: the kind's line is the node, and one of another kind is no binder.
 use Prim.Native.Nat.{ℕ}
-use mathlib.Core.Bool.{Bool, true}
+use mathlib.Core.Bool.{Bool}
 use mathlib.Core.Path.{◌≡◌, refl, sym, ap, ◌∙◌}
 use native.Mathlib.Omega.{arith}
-use denote.Enum.Declared.{tag_of}
 use Rattle.flc.specs.Nodes.{bind}
 use Rattle.case_model.specs.Kinds.{kind_at, node_of}
 use Rattle.case_reader.specs.declared.parts.Triple as code
@@ -11,7 +10,6 @@ use Rattle.case_reader.specs.declared.kinds.Kind.{Kind}
 use Rattle.case_reader.specs.declared.kinds.Kind.TheVariants as kind
 use Rattle.case_reader.specs.NodeKinds.{line_of}
 use Rattle.case_reader.specs.Read.{triple}
-use Rattle.case_reader.specs.contracts.kinds.Kind.{the_type}
 use Rattle.case_reader.proofs.Knowing.{by_kind}
 use Rattle.case_plan.specs.Plans.{Plan, nodes_of}
 
@@ -19,10 +17,6 @@ module _ (p : Plan) (j : ℕ) {t : code.Triple} (r : triple t ≡ p.nodes j) {k 
   pub known : nodes_of p j ≡ (line_of k').node t.1 t.2
   unfolding nodes_of
   known = sym (by_kind (triple t) (λ n. n) q e ∙ ap node_of r)
-
--- the tag of a binder
-pub binder_tag : {k : Kind} {d : Bool} → k ≡ kind.Binder d → tag_of the_type k ≡ tag_of the_type (kind.Binder true)
-binder_tag q = ap (tag_of the_type) q
 
 pub other_kind : (p : Plan) (j : ℕ) {t : code.Triple} → triple t ≡ p.nodes j → (k : Kind) → line_of k ≡ kind_at t.0
     → ((d : Bool) → k ≡ kind.Binder d → ⊥) → (d : Bool) (v b : ℕ) → nodes_of p j ≡ bind d v b → ⊥

@@ -1,66 +1,77 @@
--- Sets of states made digit by digit, from the highest state down.
--- A digit joins the set of the states from s on, so that it is the set of those from s - 1 on.
-use Prim.Native.Nat.{ℕ, suc, ◌+◌, ◌-◌, ◌*◌, ◌≤◌, ◌<◌}
-use mathlib.Core.Bool.{Bool}
+-- The sets of the states that have each proposition, with one state more.
+use Prim.Native.Nat.{ℕ, ◌+◌, ◌*◌, ◌%◌, ◌^◌, ◌≤◌, ◌<◌}
+use mathlib.Core.Bool.{Bool, true, false, or_comm}
 use mathlib.Core.List.{List}
-use mathlib.Core.Path.{◌≡◌, refl, sym, ap, ap₂, ◌∙◌}
+use mathlib.Core.Path.{◌≡◌, sym, ap, ap₂, ◌∙◌}
+use native.Mathlib.Decide.{dec_lt, ℕ_discrete}
+use native.Mathlib.Nat.{one-mul, mod-eq_of_lt}
 use native.Mathlib.Omega.{arith}
-use lib.ListN.{get_or}
-use lib.Pow.{pow_mono}
-use Rattle.flc.specs.Sets.{has, bit, set_of}
-use Rattle.flc.specs.Functions.{Fun}
-use Rattle.flc.proofs.Masks.{set_of_ext, set_of_lt}
+use borrow.Author.Tests.{eq-eqb, ne_eqb}
+use lib.Bits.{bit_or}
+use lib.ListN.{length, get_or, set, length-set}
+use lib.Pow.{pow-lt}
+use lib.Seq.{get_or-set_same, get_or-set_other}
+use Rattle.flc.specs.Sets.{either, has, set_of}
+use Rattle.flc.proofs.Masks.{has-set_of, has_beyond, has_or, has-single, set_of_lt, set_same}
 use Rattle.case_model.specs.Limits.{most_states, propositions}
 use Rattle.case_model.specs.Case.{Case}
-use Rattle.case_model.specs.Areas.{Filled, from}
-use Rattle.case_model.proofs.Filling.{filled_ext, filled_over}
-use Rattle.case_plan.specs.Plans.{props_at}
-use Rattle.case_plan.specs.Parts.{labelled, with_state}
+use Rattle.case_plan.specs.Parts.{labelled}
 
+-- ---- one set
 module _ (q : ℕ → Bool) (n : ℕ) where
-  states-none : 0 ≡ set_of (n - n) (λ t. q (n + t))
-  unfolding set_of
-  states-none = let e : n - n ≡ 0 = omega arith in rw e
+  others : (t : ℕ) → (t ≡ n → q n ≡ false) → has (set_of n q) t ≡ has (set_of (n + 1) q) t
+  others t z = elim (dec_lt t n) [
+    | yes l ↦ has-set_of n q t l ∙ sym (has-set_of (n + 1) q t (omega arith))
+    | no l ↦ has_beyond n _ t (set_of_lt n q) (omega arith) ∙ sym (elim (ℕ_discrete t n) [
+      | yes s ↦ has-set_of (n + 1) q t (omega arith) ∙ ap q s ∙ z s
+      | no s ↦ has_beyond (n + 1) _ t (set_of_lt (n + 1) q) (omega arith)
+    ])
+  ]
 
-  states_more : (s x : ℕ) → 0 < s → s ≤ n → x ≡ set_of (n - s) (λ t. q (s + t)) → 2 * x + bit (q (s - 1)) ≡ set_of (n - (s - 1)) (λ t. q (s - 1 + t))
-  unfolding set_of
-  states_more s x h l e =
-      let m : n - (s - 1) ≡ suc (n - s) = omega arith in
-      let r : set_of (n - s) (λ t. q (s - 1 + suc t)) ≡ x =
-      set_of_ext (n - s) _ _ (λ t k. let g : s - 1 + suc t ≡ s + t = omega arith in ap q g) ∙ sym e in
-      let z : s - 1 + 0 ≡ s - 1 = omega arith in
-      rw m (omega (arith, ap (λ k. bit (q k)) z))
+  set_out : q n ≡ false → set_of n q ≡ set_of (n + 1) q
+  set_out e = set_same _ _ (λ t. others t (λ _. e))
 
-  states_all : (s x : ℕ) → s ≤ 0 → x ≡ set_of (n - s) (λ t. q (s + t)) → x ≡ set_of n q
-  states_all s x h e =
-      let z : s ≡ 0 = omega arith in
-      let m : n - s ≡ n = omega arith in
-      e ∙ ap (λ k. set_of k (λ t. q (s + t))) m ∙ set_of_ext n _ _ (λ t k. let g : s + t ≡ t = omega arith in ap q g)
+  set_in : q n ≡ true → bit_or (set_of n q) (2 ^ n) ≡ set_of (n + 1) q
+  unfolding either
+  set_in e = set_same _ _ (λ t.
+      has_or (set_of n q) (2 ^ n) t ∙ ap (either (has (set_of n q) t)) (has-single n t) ∙ elim (ℕ_discrete t n) [
+        | yes s ↦
+            ap₂ either (has_beyond n _ t (set_of_lt n q) (omega arith)) (eq-eqb n t (sym s))
+            ∙ sym (has-set_of (n + 1) q t (omega arith) ∙ ap q s ∙ e)
+        | no s ↦
+            ap (either (has (set_of n q) t)) (ne_eqb n t (λ z. s (sym z))) ∙ or_comm _ false
+            ∙ others t (λ z. absurd (s z))
+      ])
 
--- ---- the sets of all propositions, in a plan
-module _ (c : Case) (n : ℕ) where
-  -- those of the states from s on
-  abbrev pub from_on : ℕ → Fun
-  from_on s i = set_of (n - s) (λ t. has (get_or c.labels (s + t) 0) i)
+-- ---- the sets of all propositions: the first i have state s, the others do not yet
+pub record Joining (c : Case) (s i : ℕ) (sets : List ℕ) : Type 0 where
+  pub long : length sets ≡ propositions
+  pub done : (k : ℕ) → k < i → get_or sets k 0 ≡ labelled c (s + 1) k
+  pub left : (k : ℕ) → i ≤ k → k < propositions → get_or sets k 0 ≡ labelled c s k
 
-  pub labelled-none : {w : List ℕ} → ((i : ℕ) → i < propositions → from w props_at i ≡ 0) → Filled w w props_at propositions (from_on n)
-  labelled-none z = record {
-    long = refl;
-    inside = λ i h. z i h ∙ states-none (λ s. has (get_or c.labels s 0) i) n;
-    under = λ p h. refl;
-    over = λ p h. refl;
+module _ {c : Case} {s i l : ℕ} {sets : List ℕ} (J : Joining c s i sets) (room : i < propositions) (e : l ≡ get_or c.labels s 0) where
+  pub joined_out : has l i ≡ false → Joining c s (i + 1) sets
+  joined_out h = record {
+    long = J.long;
+    done = λ k u. elim (ℕ_discrete k i) [
+      | yes z ↦ rw z (J.left i (omega arith) room ∙ set_out (λ s. has (get_or c.labels s 0) i) s (ap (λ l. has l i) (sym e) ∙ h))
+      | no z ↦ J.done k (omega arith)
+    ];
+    left = λ k u v. J.left k (omega arith) v;
   }
 
-  module _ {w v : List ℕ} (s : ℕ) (F : Filled w v props_at propositions (from_on s)) where
-    pub labelled_small : n ≤ most_states → (i : ℕ) → i < propositions → from v props_at i < 65536
-    labelled_small h i l =
-        omega (arith, F.inside i l, set_of_lt (n - s) (λ t. has (get_or c.labels (s + t) 0) i), pow_mono {i = n - s} {j = 16} (omega arith))
-
-    pub labelled_more : {u : List ℕ} {l : ℕ} → 0 < s → s ≤ n → l ≡ get_or c.labels (s - 1) 0 → Filled v u props_at propositions (with_state v l)
-        → Filled w u props_at propositions (from_on (s - 1))
-    labelled_more h k e G = filled_over F (filled_ext G (λ i q.
-        ap₂ (λ x l. 2 * x + bit (has l i)) (F.inside i q) e
-        ∙ states_more (λ s. has (get_or c.labels s 0) i) n s _ h k refl)) (omega arith) (omega arith)
-
-    pub labelled_all : s ≤ 0 → Filled w v props_at propositions (labelled c n)
-    labelled_all h = filled_ext F (λ i q. states_all (λ s. has (get_or c.labels s 0) i) n s _ h refl)
+  pub joined_in : s < most_states → has l i ≡ true
+      → Joining c s (i + 1) (set sets i (bit_or (get_or sets i 0) ((1 * 2 ^ s) % 2 ^ 16)))
+  joined_in few h =
+      let power : (1 * 2 ^ s) % 2 ^ 16 ≡ 2 ^ s = rw one-mul (mod-eq_of_lt (pow-lt {i = s} {j = 16} (omega arith))) in
+      let y : ℕ = bit_or (get_or sets i 0) ((1 * 2 ^ s) % 2 ^ 16) in
+      let is : y ≡ labelled c (s + 1) i =
+      ap₂ bit_or (J.left i (omega arith) room) power ∙ set_in (λ s. has (get_or c.labels s 0) i) s (ap (λ l. has l i) (sym e) ∙ h) in
+      record {
+        long = length-set sets i y ∙ J.long;
+        done = λ k u. elim (ℕ_discrete k i) [
+          | yes z ↦ rw z (get_or-set_same sets i y 0 (omega (arith, J.long)) ∙ is)
+          | no z ↦ get_or-set_other sets i k y 0 z ∙ J.done k (omega arith)
+        ];
+        left = λ k u v. get_or-set_other sets i k y 0 (λ q. omega arith) ∙ J.left k (omega arith) v;
+      }

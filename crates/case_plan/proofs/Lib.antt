@@ -5,3 +5,4 @@ pub mod Drawing
 pub mod Assembling
 pub mod StateTable
 pub mod KnownNodes
+pub mod Directions

@@ -1,48 +1,24 @@
--- The parts of a plan, as the functions that write them have it. The private contracts cite these.
-use Rattle.std.specs.Prelude.{ℕ, zero, suc, ◌+◌, ◌*◌, ◌/◌, ◌%◌, ◌≤◌, ◌<◌, Bool, List, ◌≡◌, get_or, length}
-use Rattle.flc.specs.Sets.{has, bit, set_of}
+-- The parts of a plan, as the functions that make them have it. The private contracts cite these.
+use Rattle.std.specs.Prelude.{ℕ, ◌*◌, ◌≤◌, ◌<◌, Bool, List, ◌≡◌, get_or, length}
+use Rattle.flc.specs.Sets.{has, set_of}
 use Rattle.flc.specs.Functions.{Fun}
 use Rattle.flc.specs.Nodes.{Node, bind}
-use Rattle.case_model.specs.Limits.{most_nodes, propositions, variables}
-use Rattle.case_model.specs.Kinds.{Triple}
+use Rattle.case_model.specs.Limits.{most_nodes, variables}
+use Rattle.case_model.specs.Kinds.{node_of}
 use Rattle.case_model.specs.Case.{Case, at}
-use Rattle.case_model.specs.Areas.{Filled, from}
-use Rattle.case_plan.specs.Plans.{states_at, root_at, count_at, nodes_at, homes_at, props_at, plan_words, decoded, scope_of, RulePlanned}
+use Rattle.case_reader.specs.declared.parts.Triple.{Triple}
+use Rattle.case_reader.specs.Read.{triple}
+use Rattle.case_plan.specs.declared.plans.Plan as code
+use Rattle.case_plan.specs.Plans.{decoded, nothing, RulePlanned}
 
--- the words of the nodes, three for each
-abbrev pub word_of : Triple → ℕ → ℕ
-word_of t zero = t.0
-word_of t (suc zero) = t.1
-word_of t (suc (suc i)) = t.2
+-- the nodes of the case, and nothing past the last
+pub record NodesOf (c : Case) (nodes : List Triple) : Type 0 where
+  pub long : length nodes ≡ most_nodes
+  pub are : (j : ℕ) → triple (get_or nodes j nothing) ≡ at c.nodes j
 
-abbrev pub node_words : Case → Fun
-node_words c i = word_of (at c.nodes (i / 3)) (i % 3)
-
--- the scopes of nodes from the table of free variables and the set of reached nodes
-abbrev pub scopes_from : List ℕ → ℕ → Fun
-scopes_from frees reached j = scope_of (get_or frees j 0) (has reached j)
-
--- for each proposition the states below n that have it; and the set in a plan with one state more, which has this label, below the others
-abbrev pub labelled : Case → ℕ → Fun
-labelled c n i = set_of n (λ s. has (get_or c.labels s 0) i)
-
-abbrev pub with_state : List ℕ → ℕ → Fun
-with_state w label i = 2 * from w props_at i + bit (has label i)
-
--- w has the first words of a plan of the case, and zeros behind them
-pub record Begun (c : Case) (w : List ℕ) : Type 0 where
-  pub long : length w ≡ plan_words
-  pub states : get_or w states_at 0 ≡ length c.labels
-  pub root : get_or w root_at 0 ≡ c.root
-  pub count : get_or w count_at 0 ≡ length c.nodes
-  pub rest : (i : ℕ) → from w nodes_at i ≡ 0
-
--- v has these first words and the rule of the case, and no label yet
-pub record WithRule (c : Case) (w v : List ℕ) : Type 0 where
-  pub long : length v ≡ plan_words
-  pub head : (k : ℕ) → k < nodes_at → get_or v k 0 ≡ get_or w k 0
-  pub planned : RulePlanned c (decoded v)
-  pub unlabelled : (i : ℕ) → i < propositions → from v props_at i ≡ 0
+-- the nodes of a list of triples
+abbrev pub nodes_in : List Triple → ℕ → Node
+nodes_in l j = node_of (triple (get_or l j nothing))
 
 -- each binder of the first k nodes binds a variable that there is, and no other binds it
 pub record Binders (N : ℕ → Node) (k : ℕ) : Type 0 where
@@ -50,7 +26,19 @@ pub record Binders (N : ℕ → Node) (k : ℕ) : Type 0 where
   pub low : (j : ℕ) {d : Bool} {v b : ℕ} → j < k → N j ≡ bind d v b → v < variables
   pub one : (i j : ℕ) {d d' : Bool} {v b b' : ℕ} → i < k → j < k → N i ≡ bind d v b → N j ≡ bind d' v b' → i ≡ j
 
--- v is w with each of these binders at its variable
-pub record Housed (N : ℕ → Node) (k : ℕ) (w v : List ℕ) : Type 0 where
-  pub filled : Filled w v homes_at variables (from v homes_at)
-  pub is : (j : ℕ) {d : Bool} {x b : ℕ} → j < k → N j ≡ bind d x b → get_or v (homes_at + x) 0 ≡ j
+-- each of them stands at its variable
+pub record BindersOf (N : ℕ → Node) (k : ℕ) (homes : List ℕ) : Type 0 where
+  pub long : length homes ≡ variables
+  pub is : (j : ℕ) {d : Bool} {x b : ℕ} → j < k → N j ≡ bind d x b → get_or homes x 0 ≡ j
+
+-- for each proposition the states below n that have it
+abbrev pub labelled : Case → ℕ → Fun
+labelled c n i = set_of n (λ s. has (get_or c.labels s 0) i)
+
+-- p has the rule of the case, with 2^n states' sets s, these sets of propositions and these rows of steps turned round
+pub record WithTable (c : Case) (s : ℕ) (labels rows : List ℕ) (p : code.Plan) : Type 0 where
+  pub planned : RulePlanned c (decoded p)
+  pub size : p.size ≡ s
+  pub limit : p.limit ≡ p.states * s
+  pub props : p.props ≡ labels
+  pub sources : p.sources ≡ rows

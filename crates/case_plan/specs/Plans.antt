@@ -1,6 +1,6 @@
--- What judging needs of a case, worked out once and kept in one table of words. The contracts of the internal crates cite these; those of the entries do not.
+-- What judging needs of a case, worked out once. The contracts of the internal crates cite these; those of the entries do not.
 -- The state table and the nodes are read off the plan, so that the crates which fill tables speak of a plan alone.
-use Rattle.std.specs.Prelude.{ℕ, ◌+◌, ◌*◌, ◌^◌, ◌≤◌, ◌<◌, Bool, true, cond, List, ◌↔◌, ◌≡◌, T, ltb, get_or, length}
+use Rattle.std.specs.Prelude.{ℕ, ◌+◌, ◌*◌, ◌^◌, ◌≤◌, ◌<◌, Bool, true, cond, ◌↔◌, ◌≡◌, T, ltb, get_or, length}
 use Rattle.flc.specs.Sets.{both, has, set_of}
 use Rattle.flc.specs.Functions.{Fun}
 use Rattle.flc.specs.Formula.{Table, Env, mean, free, actions}
@@ -11,46 +11,9 @@ use Rattle.case_model.specs.Kinds.{Triple, node_of, node_holds}
 use Rattle.case_model.specs.Case as model
 use Rattle.case_model.specs.Case.{Case}
 use Rattle.case_model.specs.Reach.{Reached}
-
--- ---- the places in it, by the names that the code gives them
--- n, 2^n, the most rounds that a binder takes, the root, the number of nodes
-abbrev pub states_at : ℕ
-states_at = 0
-
-abbrev pub size_at : ℕ
-size_at = 1
-
-abbrev pub limit_at : ℕ
-limit_at = 2
-
-abbrev pub root_at : ℕ
-root_at = 3
-
-abbrev pub count_at : ℕ
-count_at = 4
-
--- for each node three words: kind and operands
-abbrev pub nodes_at : ℕ
-nodes_at = 5
-
--- for each node what it depends on
-abbrev pub scopes_at : ℕ
-scopes_at = 197
-
--- for each variable its binder
-abbrev pub homes_at : ℕ
-homes_at = 261
-
--- for each proposition the states that have it
-abbrev pub props_at : ℕ
-props_at = 277
-
--- for each state t and action a, at 8t + a: the states with an a-step to t
-abbrev pub sources_at : ℕ
-sources_at = 285
-
-abbrev pub plan_words : ℕ
-plan_words = 413
+use Rattle.case_reader.specs.declared.parts.Triple as read
+use Rattle.case_reader.specs.Read.{triple}
+use Rattle.case_plan.specs.declared.plans.Plan as code
 
 pub record Plan : Type 0 where
   pub states : ℕ
@@ -64,18 +27,23 @@ pub record Plan : Type 0 where
   pub props : ℕ → ℕ
   pub sources : ℕ → ℕ
 
-abbrev pub decoded : List ℕ → Plan
-decoded t = record {
-  states = get_or t states_at 0;
-  size = get_or t size_at 0;
-  limit = get_or t limit_at 0;
-  root = get_or t root_at 0;
-  count = get_or t count_at 0;
-  nodes = λ j. cond (ltb j most_nodes) (get_or t (nodes_at + 3 * j) 0, get_or t (nodes_at + 3 * j + 1) 0, get_or t (nodes_at + 3 * j + 2) 0) (0, 0, 0);
-  scopes = λ j. get_or t (scopes_at + j) 0;
-  homes = λ v. get_or t (homes_at + v) 0;
-  props = λ i. get_or t (props_at + i) 0;
-  sources = λ k. get_or t (sources_at + k) 0;
+-- a node past the end
+abbrev pub nothing : read.Triple
+nothing = record { 0 = 0; 1 = 0; 2 = 0 }
+
+-- what the code's plan says
+abbrev pub decoded : code.Plan → Plan
+decoded p = record {
+  states = p.states;
+  size = p.size;
+  limit = p.limit;
+  root = p.root;
+  count = p.count;
+  nodes = λ j. triple (get_or p.nodes j nothing);
+  scopes = λ j. get_or p.scopes j 0;
+  homes = λ v. get_or p.binders v 0;
+  props = λ i. get_or p.props i 0;
+  sources = λ k. get_or p.sources k 0;
 }
 
 -- ---- the state table and the nodes that a plan has

@@ -1,11 +1,11 @@
 // Internal: what judging needs of a case, worked out once, for the crates that fill tables.
 #![tactic(auto)]
 
-mod places;
+mod moves;
+mod parts;
 mod planning;
-mod sets;
+mod plans;
 
-pub use places::{
-    COUNT, EVERY, LIMIT, Plan, ROOT, SIZE, STATES, binder, node, prop, scope, source,
-};
+pub use moves::{Direction, variable};
 pub use planning::{plan, plan_rule};
+pub use plans::{EVERY, Plan};

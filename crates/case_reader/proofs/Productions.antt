@@ -1,6 +1,7 @@
--- A node holds exactly if the line of some kind fits it, chop's line standing after those of the two binders.
+-- A node holds exactly if the line of some kind fits it. The lines are tried one after another, chop's after those of the two binders.
 use Prim.Native.Nat.{ℕ}
 use mathlib.Core.Bool.{Bool, true, false, ◌||◌, or_comm}
+use mathlib.Core.Logic.{◌⊎◌, ⊎_elim}
 use mathlib.Core.Path.{◌≡◌, refl, sym, ap, subst, ◌∙◌}
 use lib.Dec.{T, eqb, ltb, eqb→eq, eqb_refl, ltb→lt, lt→ltb}
 use Rattle.flc.specs.Sets.{both, either, for_some}
@@ -40,3 +41,15 @@ grammar_order j t =
     swap : (x a b : Bool) → (x || a || b) ≡ (x || b || a)
     swap true a b = refl
     swap false a b = or_comm a b
+
+-- ---- one after another
+-- u, the code's value, is x, whether a line before fits; p, whether the next one does, is tried only if u is false
+pub fitted : {u x : Bool} (p : Bool) → u ≡ x → u ≡ true → u ≡ (x || p)
+fitted p h e = e ∙ ap (λ x. x || p) (sym e ∙ h)
+
+pub missed : {u x : Bool} (p : Bool) → u ≡ x → u ≡ false → p ≡ (x || p)
+missed p h e = ap (λ x. x || p) (sym e ∙ h)
+
+-- where the two branches join
+pub tried : {A B : Type 0} {u v x : Bool} (p : Bool) → u ≡ x → (A × (v ≡ u)) ⊎ (B × (v ≡ p)) → (A → u ≡ true) → (B → u ≡ false) → v ≡ (x || p)
+tried p h came taken left = ⊎_elim (λ w. w.1 ∙ fitted p h (taken w.0)) (λ w. w.1 ∙ missed p h (left w.0)) came

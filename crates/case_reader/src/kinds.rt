@@ -113,24 +113,26 @@ pub fn is_binder(t: Triple) -> bool
 }
 
 // Row 5, for node j. The lines are the productions of the grammar line of source document 000, section 2, in its order, q as its four kinds; then the two
-// kinds of groups, which that line does not have.
+// kinds of groups, which that line does not have. A line is tried only if those before it did not fit.
 pub fn node_holds(j: usize, t: Triple) -> bool
     ensures { result ≡ node_holds j (triple t) }
 {
-    let Triple(kind, a, b) = t;
+    let kind = t.0;
+    let a = t.1;
+    let b = t.2;
     (kind == 0) & (a == 0) & (b == 0) // q: tt
-        | (kind == 1) & (a == 0) & (b == 0) // q: ff
-        | (kind == 2) & (a < Kind::PROPOSITIONS) & (b == 0) // q: a proposition
-        | (kind == 3) & (a < Kind::PROPOSITIONS) & (b == 0) // q: its complement
-        | (kind == 4) & (a < Kind::VARIABLES) & (b == 0) // Z
-        | (kind == 5) & (a == 0) & (b == 0) // τ
-        | (kind == 6) & (a < Kind::ACTIONS) & (b == 0) // ⟨a⟩
-        | (kind == 7) & (a < Kind::ACTIONS) & (b == 0) // [a]
-        | (kind == 8) & (a < j) & (b < j) // φ ∨ ψ
-        | (kind == 9) & (a < j) & (b < j) // φ ∧ ψ
-        | (kind == 11) & (a < Kind::VARIABLES) & (b < j) // μZ. φ
-        | (kind == 12) & (a < Kind::VARIABLES) & (b < j) // νZ. φ
-        | (kind == 10) & (a < j) & (b < j) // φ; ψ
-        | (kind == 13) & (a < Kind::GROUPS) & (b == 0) // some step by a group
-        | (kind == 14) & (a < Kind::GROUPS) & (b == 0) // all steps by a group
+        || (kind == 1) & (a == 0) & (b == 0) // q: ff
+        || (kind == 2) & (a < Kind::PROPOSITIONS) & (b == 0) // q: a proposition
+        || (kind == 3) & (a < Kind::PROPOSITIONS) & (b == 0) // q: its complement
+        || (kind == 4) & (a < Kind::VARIABLES) & (b == 0) // Z
+        || (kind == 5) & (a == 0) & (b == 0) // τ
+        || (kind == 6) & (a < Kind::ACTIONS) & (b == 0) // ⟨a⟩
+        || (kind == 7) & (a < Kind::ACTIONS) & (b == 0) // [a]
+        || (kind == 8) & (a < j) & (b < j) // φ ∨ ψ
+        || (kind == 9) & (a < j) & (b < j) // φ ∧ ψ
+        || (kind == 11) & (a < Kind::VARIABLES) & (b < j) // μZ. φ
+        || (kind == 12) & (a < Kind::VARIABLES) & (b < j) // νZ. φ
+        || (kind == 10) & (a < j) & (b < j) // φ; ψ
+        || (kind == 13) & (a < Kind::GROUPS) & (b == 0) // some step by a group
+        || (kind == 14) & (a < Kind::GROUPS) & (b == 0) // all steps by a group
 }

@@ -1,6 +1,7 @@
 -- Rounds of a binder: its block goes through the iterates of the body, from whatever table they rise from.
 -- After a round only the binder's table has moved, and it rose: so the lower nodes are those of functions below.
 use Prim.Native.Nat.{ℕ, suc, ◌+◌, ◌≤◌, ◌<◌}
+use mathlib.Core.Bool.{Bool, true, false}
 use mathlib.Core.List.{List}
 use mathlib.Core.Logic.{inl, inr}
 use mathlib.Core.Path.{◌≡◌, refl, sym, ap, ◌∙◌, subst}
@@ -8,7 +9,7 @@ use native.Mathlib.Decide.{ℕ_discrete}
 use native.Mathlib.Nat.{not-suc-le-zero}
 use native.Mathlib.Numerals.{add-one}
 use native.Mathlib.Omega.{arith}
-use lib.Dec.{eqb}
+use Rattle.std.specs.Prelude.{Option, Some, None}
 use Rattle.flc.specs.Formula.{Env, put}
 use Rattle.flc.specs.Nodes.{formula_at}
 use Rattle.flc.specs.Order.{Below, Agree, Good}
@@ -16,18 +17,23 @@ use Rattle.flc.specs.Iterates.{iterate}
 use Rattle.flc.proofs.Order.{agree-below, below_trans, good_agree}
 use Rattle.flc.proofs.FixedPoints.{Steady, steady_agree, iterate_good, iterate-rises}
 use Rattle.flc.proofs.Meanings.{put_two, put_good, mean_steady}
+use Rattle.case_plan.specs.declared.moves.Direction.{Direction}
 use Rattle.case_plan.specs.Plans.{Plan, table_of, nodes_of}
+use Rattle.case_plan.proofs.Directions.{direction_kind}
 use Rattle.engine.specs.declared.refresh.Binder.{Binder}
 use Rattle.engine.specs.Blocks.{block, Kept, env, Right}
-use Rattle.engine.specs.Moves.{anew, up, Grown}
+use Rattle.engine.specs.Moves.{Older, Grown}
 use Rattle.engine.specs.Dependence.{Stayed, Settled}
 use Rattle.engine.specs.Computing.{NotAt, body, wider, Roundable, Rounded, Iterable, Iterated, after}
 use Rattle.engine.proofs.Frames.{kept-none, kept_trans}
 use Rattle.engine.proofs.Refreshing.{env_same, ready_after}
 use Rattle.engine.proofs.Turns.{unseen, wider_keeps}
 
+some_same : {a b : Direction} → Some a ≡ Some b → a ≡ b
+some_same h = cc
+
 -- after r rounds, from w₀ to w
-pub record Turning (p : Plan) (w₀ w : List ℕ) (x : Binder) (act most r moved : ℕ) : Type 0 where
+pub record Turning (p : Plan) (w₀ w : List ℕ) (x : Binder) (act most r : ℕ) (moved : Option Direction) : Type 0 where
   pub few : r ≤ most
   pub kept : Kept p w₀ w (suc x.node)
   pub right : Right p (env p act w₀) act w x.node
@@ -37,7 +43,7 @@ pub record Turning (p : Plan) (w₀ w : List ℕ) (x : Binder) (act most r moved
   pub settled : Settled p act w x.node
   pub stayed : Stayed p (NotAt p x.node) w₀ w x.node
 
-module _ {p : Plan} {w₀ : List ℕ} {x : Binder} {act way : ℕ} (most : ℕ) (I : Iterable p w₀ x act way) where
+module _ {p : Plan} {w₀ : List ℕ} {x : Binder} {act : ℕ} {way : Direction} (most : ℕ) (I : Iterable p w₀ x act way) where
   abbrev ρ : Env
   ρ = env p act w₀
 
@@ -45,9 +51,9 @@ module _ {p : Plan} {w₀ : List ℕ} {x : Binder} {act way : ℕ} (most : ℕ) 
   steady = mean_steady (table_of p) (formula_at (nodes_of p) x.body) x.variable ρ I.binds.ready.good
 
   good : (r : ℕ) → Good p.states (after p w₀ x act r)
-  good r = iterate_good (eqb way up) steady I.rising r
+  good r = iterate_good I.binds.least steady I.rising r
 
-  pub turning_start : Turning p w₀ w₀ x act most 0 anew
+  pub turning_start : Turning p w₀ w₀ x act most 0 None
   unfolding iterate
   turning_start = record {
     few = omega arith;
@@ -55,12 +61,12 @@ module _ {p : Plan} {w₀ : List ℕ} {x : Binder} {act way : ℕ} (most : ℕ) 
     right = I.binds.right;
     now = λ q k. refl;
     changed = λ i l. absurd (not-suc-le-zero l);
-    older = λ l. absurd (not-suc-le-zero l);
+    older = λ d l. absurd (let o : ◌≡◌ {A = ℕ} 0 1 = cc in omega arith);
     settled = I.binds.settled;
     stayed = λ i l only q k. refl;
   }
 
-  module _ {w : List ℕ} {r moved : ℕ} (U : Turning p w₀ w x act most r moved) where
+  module _ {w : List ℕ} {r : ℕ} {moved : Option Direction} (U : Turning p w₀ w x act most r moved) where
     same : env p act w ≡ ρ
     same = env_same I.binds.ready U.kept (omega arith)
 
@@ -79,7 +85,7 @@ module _ {p : Plan} {w₀ : List ℕ} {x : Binder} {act way : ℕ} (most : ℕ) 
           (sym same) U.older;
     }
 
-    module _ {z : List ℕ} {change : ℕ} (D : Rounded p w z x act change) where
+    module _ {z : List ℕ} {changed : Bool} (D : Rounded p w z x act changed) where
       -- the functions of this round
       abbrev σ : Env
       σ = put ρ x.variable (block p w x.node)
@@ -107,10 +113,10 @@ module _ {p : Plan} {w₀ : List ℕ} {x : Binder} {act way : ℕ} (most : ℕ) 
           ∙ steady_agree steady (block p w x.node) (after p w₀ x act r) good_now (good r) U.now q k
 
       -- a round that changes nothing
-      stood : change ≡ 0 → Agree p.states (after p w₀ x act r) (after p w₀ x act (suc r))
+      stood : changed ≡ false → Agree p.states (after p w₀ x act r) (after p w₀ x act (suc r))
       stood e q k = sym (U.now q k) ∙ D.stood e q k ∙ now q k
 
-      pub iterated_still : change ≡ 0 → Iterated p w₀ z x act most r
+      pub iterated_still : changed ≡ false → Iterated p w₀ z x act most r
       iterated_still e = record {
         few = U.few;
         kept = kept;
@@ -123,17 +129,17 @@ module _ {p : Plan} {w₀ : List ℕ} {x : Binder} {act way : ℕ} (most : ℕ) 
       }
 
       -- and one that does
-      moves : (change ≡ 0 → ⊥) → Agree p.states (after p w₀ x act r) (after p w₀ x act (suc r)) → ⊥
-      moves n h = n (D.stands (λ q k. U.now q k ∙ h q k ∙ sym (now q k)))
+      moves : changed ≡ true → Agree p.states (after p w₀ x act r) (after p w₀ x act (suc r)) → ⊥
+      moves n h = let e : changed ≡ false = D.stands (λ q k. U.now q k ∙ h q k ∙ sym (now q k)) in cc
 
-      rose : Below (eqb way up) p.states (block p w x.node) (block p z x.node)
+      rose : Below I.binds.least p.states (block p w x.node) (block p z x.node)
       rose =
-          let d = eqb way up in
+          let d = I.binds.least in
           let n = p.states in
           below_trans d n _ _ _ (agree-below d n _ _ U.now)
           (below_trans d n _ _ _ (iterate-rises d steady I.rising r) (agree-below d n _ _ (λ q k. sym (now q k))))
 
-      pub turning_next : r < most → (change ≡ 0 → ⊥) → Turning p w₀ z x act most (r + 1) way
+      pub turning_next : r < most → changed ≡ true → Turning p w₀ z x act most (r + 1) (Some way)
       turning_next l n = rw add-one (record {
         few = l;
         kept = kept;
@@ -143,12 +149,13 @@ module _ {p : Plan} {w₀ : List ℕ} {x : Binder} {act way : ℕ} (most : ℕ) 
           | yes e ↦ subst (λ i. Agree p.states (after p w₀ x act i) (after p w₀ x act (suc i)) → ⊥) (sym e) (moves n)
           | no e ↦ U.changed i (omega arith)
         ];
-        older = λ h. record {
-          env = σ;
-          good = put_good ρ x.variable I.binds.ready.good good_now;
-          below = λ u. put_two (Below (eqb way up) p.states) ρ ρ x.variable u _ _ rose (λ t q k s j m. m);
-          held = lower;
-        };
+        older = λ d h. subst (λ d. Older p.states d (put ρ x.variable (block p z x.node)) (λ σ. Right p σ (wider act x) z x.node))
+            (direction_kind I.binds.least d (sym I.along ∙ some_same h)) (record {
+              env = σ;
+              good = put_good ρ x.variable I.binds.ready.good good_now;
+              below = λ u. put_two (Below I.binds.least p.states) ρ ρ x.variable u _ _ rose (λ t q k s j m. m);
+              held = lower;
+            });
         settled = D.settled;
         stayed = stayed;
       })

@@ -7,7 +7,9 @@ use mathlib.Core.Path.{◌≡◌, refl, sym, ap, ◌∙◌, subst}
 use native.Mathlib.Decide.{dec_lt, ℕ_discrete}
 use native.Mathlib.Omega.{arith}
 use lib.Bits.{bit_or}
-use lib.Dec.{T, eqb}
+use lib.Dec.{T}
+use Rattle.std.specs.Prelude.{Option}
+use Rattle.case_plan.specs.declared.moves.Direction.{Direction}
 use Rattle.flc.specs.Sets.{has}
 use Rattle.flc.specs.Formula.{Env, free}
 use Rattle.flc.specs.Nodes.{Node, leaf, two, bind, formula_at}
@@ -18,7 +20,7 @@ use Rattle.case_plan.specs.Plans.{Plan, table_of, nodes_of, Within, Sound}
 use Rattle.case_plan.proofs.Scopes.{scope_small, scope_mark, scope_frees, scope_names}
 use Rattle.engine.specs.Blocks.{Kept, env, Right, RightAt, Fillable, NodeFilled}
 use Rattle.engine.specs.Dependence.{Depends, Only, as_bound, Settled}
-use Rattle.engine.specs.Moves.{up, Older}
+use Rattle.engine.specs.Moves.{Older}
 use Rattle.engine.specs.Computing.{Ready, Refreshable, Refreshed, NotAt, Computable, Computed, rounds_in}
 use Rattle.engine.proofs.Frames.{in_table, kept-none, kept_block, kept-up, kept_trans, filled_kept, filled_lower, or_within, within_or, env-kept}
 use Rattle.engine.proofs.Plain.{free_var, operator_low, value_right, second_sets}
@@ -62,7 +64,7 @@ refresh_none {p} {w} {k} old act e = record {
 pub ready_above : {p : Plan} {w : List ℕ} {k j act : ℕ} → Ready p w k act → j < k → (u : ℕ) → u < variables → T (has act u) → NotAt p j u
 ready_above R l u h t e = let (a, b) = R.homes u h t in omega arith
 
-module _ {p : Plan} {w : List ℕ} {k old act grown : ℕ} (j : ℕ) (R : Refreshable p w k old act grown) (e : k ≡ suc j) where
+module _ {p : Plan} {w : List ℕ} {k old act : ℕ} {grown : Option Direction} (j : ℕ) (R : Refreshable p w k old act grown) (e : k ≡ suc j) where
   pub last_there : j < p.count
   last_there = omega (arith, R.ready.below)
 
@@ -85,7 +87,7 @@ module _ {p : Plan} {w : List ℕ} {k old act grown : ℕ} (j : ℕ) (R : Refres
     less = R.less;
     right = λ i l. R.right i (omega arith);
     settled = settled_lower S old w j (λ u h t. above u h (R.less u (omega arith) t)) settled_old;
-    older = λ g. older_map (λ σ Q i l. Q i (omega arith)) (R.older g);
+    older = λ d g. older_map (λ σ Q i l. Q i (omega arith)) (R.older d g);
   }
 
   -- a node below j that depends on a variable bound at j
@@ -151,8 +153,8 @@ module _ {p : Plan} {w : List ℕ} {k old act grown : ℕ} (j : ℕ) (R : Refres
           within = within;
           right = subst (λ ρ. Right p ρ act y j) (sym same) T₁.right;
           settled = T₁.settled;
-          older = λ g. subst (λ ρ. Older p.states (eqb grown up) ρ (λ σ. RightAt p σ y j)) (sym same)
-              (older_map (λ σ Q x i. kept_block T₁.kept j x (omega arith) ∙ Q j (omega arith) within x i) (R.older g));
+          older = λ d g. subst (λ ρ. Older p.states d ρ (λ σ. RightAt p σ y j)) (sym same)
+              (older_map (λ σ Q x i. kept_block T₁.kept j x (omega arith) ∙ Q j (omega arith) within x i) (R.older d g));
         }
 
     pub one_more : {v : List ℕ} {r : ℕ} → bit_or (p.scopes j) act ≡ act → (bit_or (p.scopes j) old ≡ old → ⊥)
@@ -186,7 +188,7 @@ no_rounds p j ρ h = go (nodes_of p j) h
     go (two o a b) h = refl
     go (bind d v b) h = absurd (h d v b refl)
 
-module _ {p : Plan} {w : List ℕ} {j act grown : ℕ} (C : Computable p w j act grown) (plain : (d : Bool) (v b : ℕ) → nodes_of p j ≡ bind d v b → ⊥) where
+module _ {p : Plan} {w : List ℕ} {j act : ℕ} {grown : Option Direction} (C : Computable p w j act grown) (plain : (d : Bool) (v b : ℕ) → nodes_of p j ≡ bind d v b → ⊥) where
   sound : Sound p
   sound = C.ready.sound
 

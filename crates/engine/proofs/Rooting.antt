@@ -2,7 +2,6 @@
 use Prim.Native.Nat.{ℕ, suc, ◌<◌}
 use mathlib.Core.List.{List}
 use mathlib.Core.Path.{◌≡◌, refl, sym, ap, ◌∙◌, subst}
-use native.Mathlib.Nat.{not-suc-le-zero}
 use native.Mathlib.Omega.{arith}
 use lib.Dec.{T, eqb→eq}
 use lib.ListN.{length}
@@ -18,7 +17,7 @@ use Rattle.flc.proofs.Unfolding.{lower-at}
 use Rattle.case_plan.specs.Plans.{Plan, table_of, nodes_of, Within, every_mark}
 use Rattle.case_plan.proofs.Scopes.{node_lower, scope_mark, scope_root}
 use Rattle.engine.specs.Blocks.{RightAt}
-use Rattle.engine.specs.Moves.{anew}
+use Rattle.std.specs.Prelude.{None}
 use Rattle.engine.specs.Computing.{Ready, Refreshable, Refreshed, Computable, Computed, rounds_in, Runnable, Ran}
 use Rattle.engine.proofs.Frames.{kept-none, env_idle}
 use Rattle.engine.proofs.Depending.{reached_low, depends_met, depends_above}
@@ -47,30 +46,30 @@ module _ {p : Plan} (w : List ℕ) (A : Runnable p (length w)) where
     good = subst (GoodEnv p.states) (sym (env_idle p w)) (none_good p.states);
   }
 
-  pub root_refreshable : Refreshable p w p.root 0 every_mark anew
+  pub root_refreshable : Refreshable p w p.root 0 every_mark None
   root_refreshable = record {
     ready = ready_after ready (kept-none p w 0) (omega arith) (omega arith);
     small = omega arith;
     less = λ s k t. absurd (subst T (has_empty s) t);
     settled = λ m. absurd (subst T (has_empty 16) m);
     right = λ i l h. absurd (subst T (has_empty 16) (h 16 (omega arith) (scope_mark A.sound.rule i (omega (arith, A.sound.rule.root)))));
-    older = λ g. absurd (not-suc-le-zero g);
+    older = λ d g. absurd (let o : ◌≡◌ {A = ℕ} 0 1 = cc in omega arith);
   }
 
   within : Within (p.scopes p.root) every_mark
   within s k t = subst (λ m. T (has m s)) (scope_root A.sound.rule) t
 
   module _ {u : List ℕ} (S : Refreshed p w u p.root 0 every_mark) where
-    pub root_computable : Computable p u p.root every_mark anew
+    pub root_computable : Computable p u p.root every_mark None
     root_computable = record {
       ready = ready_after ready S.kept (omega arith) (omega arith);
       within = within;
       right = subst (λ ρ. (i : ℕ) → i < p.root → Within (p.scopes i) every_mark → RightAt p ρ u i) (sym (env_same ready S.kept (omega arith))) S.right;
       settled = S.settled;
-      older = λ g. absurd (not-suc-le-zero g);
+      older = λ d g. absurd (let o : ◌≡◌ {A = ℕ} 0 1 = cc in omega arith);
     }
 
-    pub ran : {v : List ℕ} {r : ℕ} → Computed p u v p.root every_mark anew r → Ran p w v r
+    pub ran : {v : List ℕ} {r : ℕ} → Computed p u v p.root every_mark None r → Ran p w v r
     ran {v} C = record {
       long = C.kept.long ∙ S.kept.long;
       right = own_right A.sound v (λ i r. C.settled ready.mark i (omega (arith, reached_low A.sound i r))

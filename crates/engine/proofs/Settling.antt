@@ -8,8 +8,8 @@ use mathlib.Core.Path.{◌≡◌, refl, sym, ap, ◌∙◌, subst}
 use native.Mathlib.Nat.{mul-le-mul_right}
 use native.Mathlib.Decide.{ℕ_discrete}
 use native.Mathlib.Omega.{arith}
-use borrow.Author.Tests.{eq-eqb, ne_eqb}
-use lib.Dec.{T, eqb}
+use borrow.Author.Tests.{eq-eqb}
+use lib.Dec.{T}
 use Rattle.flc.specs.Sets.{has, set_of}
 use Rattle.flc.proofs.Tests.{either_left, either_right}
 use Rattle.flc.specs.Functions.{Fun, approximant}
@@ -21,13 +21,17 @@ use Rattle.flc.proofs.Masks.{set_of-none, set_all}
 use Rattle.flc.proofs.FixedPoints.{Steady, rising_agree, iterate-agree, iterate_fixed, approx_iterate, approx_rising}
 use Rattle.flc.proofs.Rounds.{settled, rounds_unique}
 use Rattle.flc.proofs.Meanings.{mean_steady, mean_rising, mean_fix}
+use Rattle.std.specs.Prelude.{Option, None}
 use Rattle.case_model.specs.Areas.{Filled}
+use Rattle.case_plan.specs.declared.moves.Direction.{Direction}
+use Rattle.case_plan.specs.Moves.{direction, goes_on}
 use Rattle.case_plan.specs.Plans.{Plan, table_of, nodes_of, meaning, Sound}
+use Rattle.case_plan.proofs.Directions.{goes_on-same}
 use Rattle.tables.proofs.Sizes.{size_some}
 use Rattle.engine.specs.declared.refresh.Binder.{Binder}
 use Rattle.engine.specs.Blocks.{block, Kept, env, Right, RightAt}
 use Rattle.engine.specs.Dependence.{Only, as_bound, Settled}
-use Rattle.engine.specs.Moves.{anew, up, direction, begins, Older}
+use Rattle.engine.specs.Moves.{begins, Older}
 use Rattle.engine.specs.Computing.{Computable, Computed, rounds_in, body, wider, Iterable, Iterated, Still, after}
 use Rattle.engine.proofs.Frames.{in_table, kept_trans, filled_kept, filled_lower, wider_mk}
 use Rattle.engine.proofs.Depending.{depends_binder, depends_above, depends_up}
@@ -40,24 +44,16 @@ use Rattle.engine.proofs.Plain.{unfolded}
 pub limit_small : {p : Plan} → Sound p → p.limit ≤ 1048576
 limit_small {p} S = omega (arith, S.limit, (size_some S.sized).1, mul-le-mul_right {m = p.states} {n = 16} p.size S.sized.few)
 
--- ---- the two directions
-direction_known : (d : Bool) → anew < direction d
-direction_known true = omega arith
-direction_known false = omega arith
-
-direction-up : (d : Bool) → eqb (direction d) up ≡ d
-direction-up true = refl
-direction-up false = refl
-
 -- where a binder's table begins, by the test of its direction
-pub begins_old : (d : Bool) (grown : ℕ) → direction d ≡ grown → (size : ℕ) (old : Fun) (x : ℕ) → begins d grown size old x ≡ old x
-begins_old d grown e size old x = rw (eq-eqb (direction d) grown e)
+pub begins_old : (d : Bool) (grown : Option Direction) → goes_on (direction d) grown ≡ true → (size : ℕ) (old : Fun) (x : ℕ) → begins d grown size old x ≡ old x
+begins_old d grown e size old x = rw e
 
-pub begins-anew : (d : Bool) (grown : ℕ) → (direction d ≡ grown → ⊥) → (size : ℕ) (old : Fun) (x : ℕ) → begins d grown size old x ≡ cond d 0 (size - 1)
-begins-anew d grown n size old x = rw (ne_eqb (direction d) grown n)
+pub begins-anew : (d : Bool) (grown : Option Direction) → goes_on (direction d) grown ≡ false → (size : ℕ) (old : Fun) (x : ℕ)
+    → begins d grown size old x ≡ cond d 0 (size - 1)
+begins-anew d grown e size old x = rw e
 
 -- ---- from the call
-module _ {p : Plan} {w w₀ : List ℕ} {act grown : ℕ} (x : Binder) (d : Bool) (C : Computable p w x.node act grown)
+module _ {p : Plan} {w w₀ : List ℕ} {act : ℕ} {grown : Option Direction} (x : Binder) (d : Bool) (C : Computable p w x.node act grown)
     (e : nodes_of p x.node ≡ bind d x.variable x.body)
     (F : Filled w w₀ (x.node * p.size) p.size (begins d grown p.size (block p w x.node))) where
   S : Sound p
@@ -80,7 +76,7 @@ module _ {p : Plan} {w w₀ : List ℕ} {act grown : ℕ} (x : Binder) (d : Bool
   steady = mean_steady (table_of p) (formula_at (nodes_of p) x.body) x.variable (env p act w) C.ready.good
 
   -- approximant 0, if it starts anew
-  from_zero : (direction d ≡ grown → ⊥) → Agree p.states (block p w₀ x.node) (approximant d p.states (body p (env p act w) x) 0)
+  from_zero : goes_on (direction d) grown ≡ false → Agree p.states (block p w₀ x.node) (approximant d p.states (body p (env p act w) x) 0)
   unfolding approximant
   from_zero n q k = F.inside q (size q k) ∙ begins-anew d grown n p.size (block p w x.node) q ∙ first d
     where
@@ -89,7 +85,7 @@ module _ {p : Plan} {w w₀ : List ℕ} {act grown : ℕ} (x : Binder) (d : Bool
       first false = ap (λ k. k - 1) S.sized.size ∙ sym (set_all p.states)
 
   -- else the function of the node in an environment below
-  from_old : direction d ≡ grown → Older p.states d (env p act w) (λ σ. RightAt p σ w x.node)
+  from_old : goes_on (direction d) grown ≡ true → Older p.states d (env p act w) (λ σ. RightAt p σ w x.node)
       → Rising d p.states (body p (env p act w) x) (block p w₀ x.node)
   from_old q O =
       rising_agree d steady
@@ -97,12 +93,11 @@ module _ {p : Plan} {w w₀ : List ℕ} {act grown : ℕ} (x : Binder) (d : Bool
       (λ y k. F.inside y (size y k) ∙ begins_old d grown q p.size (block p w x.node) y ∙ O.held y k ∙ ap (λ f. f y) (binder_mean O.env))
 
   rising : Rising d p.states (body p (env p act w) x) (block p w₀ x.node)
-  rising = elim (ℕ_discrete (direction d) grown) [
-    | yes q ↦ from_old q
-        (subst (λ f. Older p.states f (env p act w) (λ σ. RightAt p σ w x.node)) (ap (λ g. eqb g up) (sym q) ∙ direction-up d)
-        (C.older (subst (λ g. anew < g) q (direction_known d))))
-    | no q ↦ rising_agree d steady (approx_rising d) (from_zero q)
-  ]
+  rising = go (goes_on (direction d) grown) refl
+    where
+      go : (b : Bool) → goes_on (direction d) grown ≡ b → Rising d p.states (body p (env p act w) x) (block p w₀ x.node)
+      go true q = from_old q (C.older d (goes_on-same (direction d) grown q))
+      go false q = rising_agree d steady (approx_rising d) (from_zero q)
 
   pub iterable : Iterable p w₀ x act (direction d)
   iterable = record {
@@ -114,8 +109,8 @@ module _ {p : Plan} {w w₀ : List ℕ} {act grown : ℕ} (x : Binder) (d : Bool
       right = subst (λ ρ. Right p ρ act w₀ x.node) (sym same) (λ i l h q k. filled_lower p F i q l (size q k) ∙ C.right i l h q k);
       settled = settled_filled S act (ready_above C.ready (omega arith)) F C.settled;
     };
-    rising = subst (λ ρ. Rising (eqb (direction d) up) p.states (body p ρ x) (block p w₀ x.node)) (sym same)
-        (subst (λ f. Rising f p.states (body p (env p act w) x) (block p w₀ x.node)) (sym (direction-up d)) rising);
+    along = refl;
+    rising = subst (λ ρ. Rising d p.states (body p ρ x) (block p w₀ x.node)) (sym same) rising;
   }
 
   -- ---- to the end
@@ -150,13 +145,13 @@ module _ {p : Plan} {w w₀ : List ℕ} {act grown : ℕ} (x : Binder) (d : Bool
         ∙ ap (λ f. f q) (sym (mean_fix (table_of p) d x.variable (formula_at (nodes_of p) x.body) (env p act w)) ∙ sym (binder_mean (env p act w)))
 
     -- begun with approximant 0, they are the approximants
-    approximants : grown ≡ anew → (i : ℕ) → Agree p.states (iter i) (approximant d p.states (body p (env p act w) x) i)
+    approximants : grown ≡ None → (i : ℕ) → Agree p.states (iter i) (approximant d p.states (body p (env p act w) x) i)
     approximants g i q k =
-        let n : direction d ≡ grown → ⊥ = λ q. omega (arith, direction_known d) in
+        let n : goes_on (direction d) grown ≡ false = ap (goes_on (direction d)) g in
         iterate-agree steady rising.good (approx_rising d {F = body p (env p act w) x}).good (from_zero n) i q k
         ∙ ap (λ (A : ℕ → Fun). A i q) (approx_iterate d p.states (body p (env p act w) x))
 
-    rounds : grown ≡ anew → r ≡ rounds_in (table_of p) (nodes_of p x.node) (formula_at (nodes_of p)) (env p act w)
+    rounds : grown ≡ None → r ≡ rounds_in (table_of p) (nodes_of p x.node) (formula_at (nodes_of p)) (env p act w)
     rounds g =
         let A = approximants g in
         rounds_unique d steady r (λ q k. sym (A r q k) ∙ still q k ∙ A (suc r) q k)

@@ -1,6 +1,7 @@
 -- One round of a binder: the lower nodes are computed with its table for its variable, so that the body's block is what the body makes of it.
 -- What does not depend on the variable stays right, for its function does not see the variable.
 use Prim.Native.Nat.{ℕ, ◌+◌, ◌*◌, ◌^◌, ◌≤◌, ◌<◌}
+use mathlib.Core.Bool.{Bool, false}
 use mathlib.Core.List.{List}
 use mathlib.Core.Path.{◌≡◌, sym, ap, ◌∙◌, subst}
 use native.Mathlib.Decide.{ℕ_discrete}
@@ -19,9 +20,11 @@ use Rattle.flc.proofs.Tests.{either_left, either_right, either_use}
 use Rattle.flc.proofs.Meanings.{put_good, mean-free}
 use Rattle.case_model.specs.Limits.{variables}
 use Rattle.case_model.specs.Areas.{from}
+use Rattle.std.specs.Prelude.{Option}
+use Rattle.case_plan.specs.declared.moves.Direction.{Direction}
 use Rattle.case_plan.specs.Plans.{Plan, table_of, nodes_of, meaning, Within, Sound}
 use Rattle.case_plan.proofs.Scopes.{scope_frees, scope_body}
-use Rattle.tables.specs.Tables.{Advanced}
+use Rattle.areas.specs.Runs.{Advanced}
 use Rattle.engine.specs.declared.refresh.Binder.{Binder}
 use Rattle.engine.specs.Blocks.{block, env, Right}
 use Rattle.engine.specs.Moves.{Grown}
@@ -83,7 +86,7 @@ module _ {p : Plan} {w : List ℕ} {x : Binder} {act : ℕ} (B : Binds p w x act
   wider-env = env-wider p act x.variable w binds_low.0 ∙ ap (λ j. put (env p act w) x.variable (block p w j)) binder_home
 
 -- ---- the round
-module _ {p : Plan} {w : List ℕ} {x : Binder} {act moved : ℕ} (R : Roundable p w x act moved) where
+module _ {p : Plan} {w : List ℕ} {x : Binder} {act : ℕ} {moved : Option Direction} (R : Roundable p w x act moved) where
   B : Binds p w x act
   B = R.binds
 
@@ -115,8 +118,8 @@ module _ {p : Plan} {w : List ℕ} {x : Binder} {act moved : ℕ} (R : Roundable
     older = subst (λ ρ. Grown p.states moved ρ (λ σ. Right p σ (wider act x) w x.node)) (sym (wider-env B)) R.older;
   }
 
-  module _ {y z : List ℕ} {change : ℕ} (T₁ : Refreshed p w y x.node act (wider act x))
-      (D : Advanced y z (x.body * p.size) (x.node * p.size) p.size change) where
+  module _ {y z : List ℕ} {changed : Bool} (T₁ : Refreshed p w y x.node act (wider act x))
+      (D : Advanced y z (x.body * p.size) (x.node * p.size) p.size changed) where
     size : (q : ℕ) → q < 2 ^ p.states → q < p.size
     size = in_table B.ready.sound
 
@@ -134,13 +137,13 @@ module _ {p : Plan} {w : List ℕ} {x : Binder} {act moved : ℕ} (R : Roundable
     above = ready_above B.ready (omega arith)
 
     -- if nothing changed, the binders' blocks are as the lower nodes found them
-    unchanged : change ≡ 0 → (u : ℕ) → x.node ≤ p.homes u → (q : ℕ) → q < p.size → block p z (p.homes u) q ≡ block p y (p.homes u) q
+    unchanged : changed ≡ false → (u : ℕ) → x.node ≤ p.homes u → (q : ℕ) → q < p.size → block p z (p.homes u) q ≡ block p y (p.homes u) q
     unchanged e u l q k = elim (ℕ_discrete (p.homes u) x.node) [
       | yes h ↦ subst (λ j. block p z j q ≡ block p y j q) (sym h) (D.filled.inside q k ∙ D.stood e q k)
       | no h ↦ kept_block (filled_kept p D.filled) (p.homes u) q (omega arith)
     ]
 
-    pub rounded : Rounded p w z x act change
+    pub rounded : Rounded p w z x act changed
     rounded = record {
       kept = kept_trans T₁.kept (filled_kept p D.filled) (omega arith);
       next = λ q k. D.filled.inside q (size q k) ∙ next q k;

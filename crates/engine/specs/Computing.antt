@@ -1,5 +1,5 @@
 -- What the recursion over nodes asks for and leaves. The functions of the active variables are read off their binders' blocks, which no call changes.
-use Rattle.std.specs.Prelude.{ℕ, suc, ◌*◌, ◌^◌, ◌≤◌, ◌<◌, Bool, List, ◌⊎◌, ◌≡◌, T, eqb, length}
+use Rattle.std.specs.Prelude.{ℕ, suc, ◌*◌, ◌^◌, ◌≤◌, ◌<◌, Bool, false, List, ◌⊎◌, ◌≡◌, T, Option, None, length}
 use Rattle.std.specs.Int.Bits.{bit_or}
 use Rattle.flc.specs.Sets.{has}
 use Rattle.flc.specs.Functions.{Fun, rounds}
@@ -10,10 +10,12 @@ use Rattle.flc.specs.Iterates.{iterate, Rising}
 use Rattle.flc.specs.Own.{own}
 use Rattle.case_model.specs.Limits.{variables}
 use Rattle.case_model.specs.Reach.{Reached}
+use Rattle.case_plan.specs.declared.moves.Direction.{Direction}
+use Rattle.case_plan.specs.Moves.{direction}
 use Rattle.case_plan.specs.Plans.{Plan, table_of, nodes_of, meaning, Within, Sound}
 use Rattle.engine.specs.declared.refresh.Binder.{Binder}
 use Rattle.engine.specs.Blocks.{block, Kept, env, Right, RightAt}
-use Rattle.engine.specs.Moves.{anew, up, Grown}
+use Rattle.engine.specs.Moves.{Grown}
 use Rattle.engine.specs.Dependence.{Stayed, Settled}
 
 -- ---- the nodes below k
@@ -28,7 +30,7 @@ pub record Ready (p : Plan) (w : List ℕ) (k act : ℕ) : Type 0 where
   pub good : GoodEnv p.states (env p act w)
 
 -- those that depend only on the old are right; and all were right before one table moved, if its direction is told
-pub record Refreshable (p : Plan) (w : List ℕ) (k old act grown : ℕ) : Type 0 where
+pub record Refreshable (p : Plan) (w : List ℕ) (k old act : ℕ) (grown : Option Direction) : Type 0 where
   pub ready : Ready p w k act
   pub small : old < 2 ^ 18
   pub less : Within old act
@@ -48,7 +50,7 @@ pub record Refreshed (p : Plan) (w v : List ℕ) (k old act : ℕ) : Type 0 wher
 abbrev pub NotAt : Plan → ℕ → ℕ → Type 0
 NotAt p j u = p.homes u ≡ j → ⊥
 
-pub record Computable (p : Plan) (w : List ℕ) (j act grown : ℕ) : Type 0 where
+pub record Computable (p : Plan) (w : List ℕ) (j act : ℕ) (grown : Option Direction) : Type 0 where
   pub ready : Ready p w (suc j) act
   pub within : Within (p.scopes j) act
   pub right : Right p (env p act w) act w j
@@ -62,12 +64,12 @@ rounds_in L (two o a b) φ ρ = 0
 rounds_in L (bind d v b) φ ρ = rounds d L.n (λ f. mean L (φ b) (put ρ v f))
 
 -- it is right too; if it started anew, after r rounds; a block that does not depend on a variable bound there stayed
-pub record Computed (p : Plan) (w v : List ℕ) (j act grown r : ℕ) : Type 0 where
+pub record Computed (p : Plan) (w v : List ℕ) (j act : ℕ) (grown : Option Direction) (r : ℕ) : Type 0 where
   pub kept : Kept p w v (suc j)
   pub right : Right p (env p act w) act v (suc j)
   pub settled : Settled p act v (suc j)
   pub stayed : Stayed p (NotAt p j) w v j
-  pub rounds : grown ≡ anew → r ≡ rounds_in (table_of p) (nodes_of p j) (formula_at (nodes_of p)) (env p act w)
+  pub rounds : grown ≡ None → r ≡ rounds_in (table_of p) (nodes_of p j) (formula_at (nodes_of p)) (env p act w)
 
 -- ---- the rounds of a binder
 -- the body's function, given one for the binder's variable
@@ -88,27 +90,28 @@ pub record Binds (p : Plan) (w : List ℕ) (x : Binder) (act : ℕ) : Type 0 whe
   pub settled : Settled p act w x.node
 
 -- one round: from a monotone table; all nodes below were right before it moved, if its direction is told
-pub record Roundable (p : Plan) (w : List ℕ) (x : Binder) (act moved : ℕ) : Type 0 where
+pub record Roundable (p : Plan) (w : List ℕ) (x : Binder) (act : ℕ) (moved : Option Direction) : Type 0 where
   pub binds : Binds p w x act
   pub good : Good p.states (block p w x.node)
   pub older : Grown p.states moved (put (env p act w) x.variable (block p w x.node)) (λ σ. Right p σ (wider act x) w x.node)
 
--- to what the body makes of it; the nodes below are those of the table before, and the change is 0 just if that is the table after, with which
+-- to what the body makes of it; the nodes below are those of the table before, and nothing changed just if that is the table after, with which
 -- they then are right
-pub record Rounded (p : Plan) (w v : List ℕ) (x : Binder) (act change : ℕ) : Type 0 where
+pub record Rounded (p : Plan) (w v : List ℕ) (x : Binder) (act : ℕ) (changed : Bool) : Type 0 where
   pub kept : Kept p w v (suc x.node)
   pub next : Agree p.states (block p v x.node) (body p (env p act w) x (block p w x.node))
   pub lower : Right p (put (env p act w) x.variable (block p w x.node)) (wider act x) v x.node
-  pub stood : change ≡ 0 → Agree p.states (block p w x.node) (block p v x.node)
-  pub stands : Agree p.states (block p w x.node) (block p v x.node) → change ≡ 0
+  pub stood : changed ≡ false → Agree p.states (block p w x.node) (block p v x.node)
+  pub stands : Agree p.states (block p w x.node) (block p v x.node) → changed ≡ false
   pub settled : Settled p act v x.node
-  pub closed : change ≡ 0 → Settled p (wider act x) v x.node
+  pub closed : changed ≡ false → Settled p (wider act x) v x.node
   pub stayed : Stayed p (NotAt p x.node) w v x.node
 
--- round after round, from a table that moves in the direction `way`
-pub record Iterable (p : Plan) (w : List ℕ) (x : Binder) (act way : ℕ) : Type 0 where
+-- round after round, from a table that moves in the direction `way`, that of the binder
+pub record Iterable (p : Plan) (w : List ℕ) (x : Binder) (act : ℕ) (way : Direction) : Type 0 where
   pub binds : Binds p w x act
-  pub rising : Rising (eqb way up) p.states (body p (env p act w) x) (block p w x.node)
+  pub along : way ≡ direction binds.least
+  pub rising : Rising binds.least p.states (body p (env p act w) x) (block p w x.node)
 
 -- what they come to
 abbrev pub after : Plan → List ℕ → Binder → ℕ → ℕ → Fun

@@ -1,25 +1,14 @@
--- Where the tables of binders moved since a node was last computed, and what a binder's table then begins with.
-use Rattle.std.specs.Prelude.{ℕ, ◌-◌, ◌<◌, Bool, cond, eqb}
+-- What a binder's table begins with, and what is known where the tables of binders moved since a node was last computed.
+use Rattle.std.specs.Prelude.{ℕ, ◌-◌, Bool, cond, Option, Some, ◌≡◌}
 use Rattle.flc.specs.Functions.{Fun}
 use Rattle.flc.specs.Formula.{Env}
 use Rattle.flc.specs.Order.{Below, GoodEnv}
+use Rattle.case_plan.specs.declared.moves.Direction.{Direction}
+use Rattle.case_plan.specs.Moves.{direction, goes_on}
 
--- nothing is known, up or down; a least fixed point is approached from below, a greatest from above
-abbrev pub anew : ℕ
-anew = 0
-
-abbrev pub up : ℕ
-up = 1
-
-abbrev pub down : ℕ
-down = 2
-
-abbrev pub direction : Bool → ℕ
-direction least = cond least up down
-
--- the old table if the binder moves on in the direction `grown`, else approximant 0
-abbrev pub begins : Bool → ℕ → ℕ → Fun → Fun
-begins least grown size old x = cond (eqb (direction least) grown) (old x) (cond least 0 (size - 1))
+-- clause 2.10: the old table if the binder moves on in the direction `grown`, else approximant 0
+abbrev pub begins : Bool → Option Direction → ℕ → Fun → Fun
+begins least grown size old x = cond (goes_on (direction least) grown) (old x) (cond least 0 (size - 1))
 
 -- Q held of functions below ρ, in the order of the flag
 pub record Older (n : ℕ) (d : Bool) (ρ : Env) (Q : Env → Type 0) : Type 0 where
@@ -29,5 +18,5 @@ pub record Older (n : ℕ) (d : Bool) (ρ : Env) (Q : Env → Type 0) : Type 0 w
   pub held : Q env
 
 -- since Q held, the functions moved only in the direction `grown`, if one is known
-abbrev pub Grown : ℕ → ℕ → Env → (Env → Type 0) → Type 0
-Grown n grown ρ Q = anew < grown → Older n (eqb grown up) ρ Q
+abbrev pub Grown : ℕ → Option Direction → Env → (Env → Type 0) → Type 0
+Grown n grown ρ Q = (d : Bool) → grown ≡ Some (direction d) → Older n d ρ Q

@@ -1,32 +1,10 @@
-// What a binder's table begins with, and in which direction it moves.
-ghost use Rattle.std.specs.Prelude.{cond, ◌≡◌, ◌+◌, ◌-◌, ◌^◌, ◌≤◌, ◌<◌, length};
-ghost use Rattle.case_model.specs.Limits.{variables};
+// What a binder's table begins with.
+ghost use Rattle.std.specs.Prelude.{cond, ◌≡◌, ◌+◌, ◌-◌, ◌≤◌, length};
 ghost use Rattle.case_model.specs.Areas.{Filled, from};
-ghost use Rattle.engine.specs.Moves.{direction, begins};
+ghost use Rattle.engine.specs.Moves.{begins};
 
+use case_plan::Direction;
 use tables::constant;
-
-// Where the tables of binders moved since a node was last computed: it starts anew, or one moved up, or down.
-pub(crate) const ANEW: usize = 0;
-
-const UP: usize = 1;
-
-const DOWN: usize = 2;
-
-// The direction in which a binder's approximants move.
-pub(crate) fn direction(least: bool) -> usize
-    ensures { result ≡ direction least }
-{
-    if least { UP } else { DOWN }
-}
-
-// The set of one variable.
-pub(crate) fn variable(v: usize) -> u32
-    requires { v < variables }
-    ensures { result ≡ 2 ^ v }
-{
-    1u32 << v
-}
 
 // The value of approximant 0: no states for μ, all for ν.
 fn start(least: bool, size: usize) -> u16
@@ -37,13 +15,18 @@ fn start(least: bool, size: usize) -> u16
 }
 
 // The old table if only a binder that moves in the same direction has moved since it was computed, else approximant 0.
-pub(crate) fn begin(work: &mut [u16], size: usize, here: usize, least: bool, grown: usize)
+// `grown` is that direction, if it is known.
+pub(crate) fn begin(
+    work: &mut [u16],
+    size: usize,
+    here: usize,
+    least: bool,
+    grown: Option<Direction>,
+)
     requires { (1 ≤ size) × (size ≤ 65536) × (here + size ≤ length work.old) }
     ensures { Filled work.old work.new here size (begins least grown size (from work.old here)) }
 {
-    let way = direction(least);
-    if way == grown {
-        return;
+    if !Direction::of(least).goes_on(grown) {
+        constant(work, size, here, start(least, size));
     }
-    constant(work, size, here, start(least, size));
 }

@@ -2,9 +2,9 @@
 ghost use Rattle.case_plan.specs.Plans.{decoded};
 ghost use Rattle.engine.specs.Computing.{Refreshable, Refreshed, Computable, Computed, Roundable, Rounded, Iterable, Iterated};
 
-use crate::begin::{ANEW, begin, direction, variable};
+use crate::begin::begin;
 use crate::nodes::fill;
-use case_plan::{LIMIT, Plan, SIZE, node, scope};
+use case_plan::{Direction, Plan, variable};
 use case_reader::{Kind, kind_of};
 use tables::advance;
 
@@ -21,49 +21,53 @@ pub struct Binder {
 // Why it is right: a node names lower ones only, and depends on what these depend on, so that they are right when its turn comes; one that
 // depends only on the old is right already; and one that depends on more than what is active is used by none that is computed.
 #[cycle(compute_refresh_round_rounds)]
-pub(crate) fn refresh(work: &mut [u16], plan: &Plan, k: usize, old: u32, act: u32, grown: usize)
+pub(crate) fn refresh(
+    work: &mut [u16],
+    plan: &Plan,
+    k: usize,
+    old: u32,
+    act: u32,
+    grown: Option<Direction>,
+)
     requires { Refreshable (decoded plan.now) work.old k old act grown }
     ensures { Refreshed (decoded plan.now) work.old work.new k old act }
 {
-    if k == 0 {
+    let Some(j) = k.checked_sub(1) else {
         return;
-    }
-    let j = k - 1;
+    };
     refresh(work, plan, j, old, act, grown);
-    let u = scope(plan, j);
-    let in_act = u | act;
-    if in_act != act {
-        return;
+    let scope = plan.scope(j);
+    if scope | act == act && scope | old != old {
+        compute(work, plan, j, act, grown);
     }
-    let in_old = u | old;
-    if in_old == old {
-        return;
-    }
-    compute(work, plan, j, act, grown);
 }
 
 // Computes node j from the lower ones: a binder's approximants until one is as the next. The answer is how many it took.
 #[cycle(compute_refresh_round_rounds)]
-pub(crate) fn compute(work: &mut [u16], plan: &Plan, j: usize, act: u32, grown: usize) -> usize
+pub(crate) fn compute(
+    work: &mut [u16],
+    plan: &Plan,
+    j: usize,
+    act: u32,
+    grown: Option<Direction>,
+) -> usize
     requires { Computable (decoded plan.now) work.old j act grown }
     ensures { Computed (decoded plan.now) work.old work.new j act grown result }
 {
-    let x = node(plan, j);
-    let kind = kind_of(x);
-    let Kind::Binder(least) = kind else {
+    let x = plan.node(j);
+    let Kind::Binder(least) = kind_of(x) else {
         fill(work, plan, j);
         return 0;
     };
-    let size = plan[SIZE];
-    begin(work, size, j * size, least, grown);
+    begin(work, plan.size, j * plan.size, least, grown);
     let binder = Binder {
         node: j,
         variable: x.1,
         body: x.2,
     };
     // The round that changes nothing comes after as many as there can be.
-    let most = plan[LIMIT] + 1;
-    rounds(work, plan, binder, act, direction(least), most)
+    let most = plan.limit + 1;
+    rounds(work, plan, binder, act, Direction::of(least), most)
 }
 
 // Rounds of a binder from the table that it has, which moves in the direction `way`, until one changes nothing, but at most so many.
@@ -75,36 +79,38 @@ pub(crate) fn rounds(
     plan: &Plan,
     x: Binder,
     act: u32,
-    way: usize,
+    way: Direction,
     most: usize,
 ) -> usize
     requires { Iterable (decoded plan.now) work.old x act way }
     ensures { Iterated (decoded plan.now) work.old work.new x act most result }
 {
-    let mut r: usize = 0;
-    let mut moved: usize = ANEW;
-    while r < most {
-        let change = round(work, plan, x, act, moved);
-        if change == 0 {
+    let mut moved = None;
+    for r in 0..most {
+        let changed = round(work, plan, x, act, moved);
+        if !changed {
             return r;
         }
-        moved = way;
-        r += 1;
+        moved = Some(way);
     }
-    r
+    most
 }
 
-// One round of a binder: the nodes that depend on its variable are computed, then its table becomes its body's. The answer is 0 just if that
-// changed nothing.
+// One round of a binder: the nodes that depend on its variable are computed, then its table becomes its body's. Did that change
+// anything?
 // Why it is right: the nodes below are computed with the binder's table for its variable, so that the body's table is what the body makes of it.
 #[cycle(compute_refresh_round_rounds)]
-pub(crate) fn round(work: &mut [u16], plan: &Plan, x: Binder, act: u32, moved: usize) -> u16
+pub(crate) fn round(
+    work: &mut [u16],
+    plan: &Plan,
+    x: Binder,
+    act: u32,
+    moved: Option<Direction>,
+) -> bool
     requires { Roundable (decoded plan.now) work.old x act moved }
     ensures { Rounded (decoded plan.now) work.old work.new x act result }
 {
-    let j = x.node;
-    let size = plan[SIZE];
     let wide = act | variable(x.variable);
-    refresh(work, plan, j, act, wide, moved);
-    advance(work, size, x.body * size, j * size)
+    refresh(work, plan, x.node, act, wide, moved);
+    advance(work, plan.size, x.body * plan.size, x.node * plan.size)
 }

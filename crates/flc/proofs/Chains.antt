@@ -1,6 +1,6 @@
 -- Chains over a range in the words of specs/Sets: what `all`, `any` and `find` say of the numbers below n.
 -- Each takes the clause `ran` of the call, and what one call of the closure gives.
-use Prim.Native.Nat.{ℕ, zero, suc, ◌+◌, ◌≤◌, ◌<◌}
+use Prim.Native.Nat.{ℕ, zero, suc, ◌+◌, ◌-◌, ◌≤◌, ◌<◌}
 use native.Mathlib.Decide.{ℕ_discrete}
 use native.Mathlib.Omega.{arith}
 use mathlib.Core.Bool.{Bool, true, false, ◌&&◌, ◌||◌}
@@ -72,6 +72,13 @@ module _ {F : Type 0} {g : Mut F (ℕ × Unit {0}) Bool} {u : Range ℕ} {f : F}
   any_below ran call =
       any_from_yields_List p u f r ran (YieldsList-from_range 0 n n refl (omega arith)) call ∙ some_range p 0 n ∙ ap (for_some n) (λ j i. from_zero p i j)
 
+-- the same from a up to b
+pub any_between : {F : Type 0} {g : Mut F (ℕ × Unit {0}) Bool} {u : Range ℕ} {f : F} (r : Bool) (a b : ℕ) (p : ℕ → Bool)
+    → ChecksAny nat_range_steps g (record { start = a; end = b }) f r u
+    → ((x : ℕ) (b : Bool) (q : F) → Called g f (x, tt) b q → (q ≡ f) × (b ≡ p x)) → r ≡ for_some (b - a) (λ i. p (a + i))
+any_between {u = u} {f = f} r a b p ran call =
+    any_from_yields_List p u f r ran (YieldsList-from_range a b (b - a) refl refl) call ∙ some_range p a (b - a)
+
 -- the first of the k numbers from a on that passes is i, if it is there or i is the end
 first_at : (p : ℕ → Bool) (a k i : ℕ) → a ≤ i → i ≤ a + k → ((j : ℕ) → a ≤ j → j < i → p j ≡ false) → (i < a + k → p i ≡ true) → first p a k ≡ i
 unfolding first
@@ -83,15 +90,20 @@ first_at p a (suc k) i l h none hit = elim (ℕ_discrete a i) [
       rw t (first_at p (suc a) k i (omega arith) (omega arith) (λ j m. none j (omega arith)) (λ m. hit (omega arith)))
 ]
 
-found : (n : ℕ) (p : ℕ → Bool) (r : Option ℕ)
-    → MatchOption r ((k : ℕ) → 0 ≤ k → k < n → p k ≡ false) (λ i. (0 ≤ i) × (i < n) × (p i ≡ true) × ((k : ℕ) → 0 ≤ k → k < i → p k ≡ false))
-    → unwrap_or r n ≡ first p 0 n
-found n p None h = sym (first_at p 0 n n (omega arith) (omega arith) h (λ l. absurd (omega arith)))
-found n p (Some i) h = sym (first_at p 0 n i h.0 (omega (arith, h.1)) h.3 (λ l. h.2))
+found : (a b : ℕ) (p : ℕ → Bool) (r : Option ℕ) → a ≤ b
+    → MatchOption r ((k : ℕ) → a ≤ k → k < b → p k ≡ false) (λ i. (a ≤ i) × (i < b) × (p i ≡ true) × ((k : ℕ) → a ≤ k → k < i → p k ≡ false))
+    → unwrap_or r b ≡ first p a (b - a)
+found a b p None l h = sym (first_at p a (b - a) b l (omega arith) h (λ k. absurd (omega arith)))
+found a b p (Some i) l h = sym (first_at p a (b - a) i h.0 (omega (arith, h.1)) h.3 (λ k. h.2))
+
+pub first_between : {F : Type 0} {g : Mut F (Bor ℕ × Unit {0}) Bool} (u : Range ℕ) {f : F} (r : Option ℕ) (a b : ℕ) (p : ℕ → Bool) → a ≤ b
+    → FindsItem nat_range_steps g (record { start = a; end = b }) f r u
+    → ((x : ℕ) (b : Bool) (q : F) → CalledAt g f x b q → (q ≡ f) × (b ≡ p x)) → unwrap_or r b ≡ first p a (b - a)
+first_between u {f = f} r a b p l ran call =
+    found a b p r l (first_from_Range (record { start = a; end = b }) u f r (λ k. p k ≡ true) (λ k. p k ≡ false) ran
+    (λ x q k. sym (call x true q k).1) (λ x q k. let (same, gives) = call x false q k in (same, sym gives)))
 
 pub first_below : {F : Type 0} {g : Mut F (Bor ℕ × Unit {0}) Bool} (u : Range ℕ) {f : F} (r : Option ℕ) (n : ℕ) (p : ℕ → Bool)
     → FindsItem nat_range_steps g (record { start = 0; end = n }) f r u
     → ((x : ℕ) (b : Bool) (q : F) → CalledAt g f x b q → (q ≡ f) × (b ≡ p x)) → unwrap_or r n ≡ first p 0 n
-first_below u {f = f} r n p ran call =
-    found n p r (first_from_Range (record { start = 0; end = n }) u f r (λ k. p k ≡ true) (λ k. p k ≡ false) ran
-    (λ x q k. sym (call x true q k).1) (λ x q k. let (same, gives) = call x false q k in (same, sym gives)))
+first_below u r n p ran call = let e : n - 0 ≡ n = omega arith in first_between u r 0 n p (omega arith) ran call ∙ ap (first p 0) e

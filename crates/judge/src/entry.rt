@@ -7,7 +7,7 @@ ghost use Rattle.judge.specs.PlanVerdicts.{plan_verdict};
 ghost use Rattle.judge.specs.EnumNumbers.{judged_reply, answer};
 
 use case_file::{Case, Reason, Refusal};
-use case_plan::{Plan, ROOT, SIZE, plan};
+use case_plan::{Plan, plan};
 use engine::run;
 use tables::clear;
 
@@ -23,7 +23,7 @@ fn answer(work: &mut [u16], plan: &Plan, set: u16) -> Verdict
     ensures { answer result ≡ plan_verdict (decoded plan.now) set }
 {
     let rounds = run(work, plan);
-    let at = plan[ROOT] * plan[SIZE] + set as usize;
+    let at = plan.root * plan.size + set as usize;
     let value = work[at];
     Verdict { set: value, rounds }
 }

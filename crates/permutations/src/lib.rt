@@ -8,24 +8,14 @@ ghost use Rattle.flc.specs.Permutations.{times, is_permutation};
 fn times(list: &[u8], number: usize) -> usize
     ensures { result ≡ times number list.now }
 {
-    let all = list.len();
-    let mut count: usize = 0;
-    for k in 0..all {
-        count += (list[k] as usize == number) as usize;
-    }
-    count
+    list.iter()
+        .filter(|item| usize::from(**item) == number)
+        .count()
 }
 
 // The length is looked at first, so that a long list of another length costs nothing.
 pub fn is_permutation(list: &[u8], n: usize) -> bool
     ensures { result ≡ is_permutation n list.now }
 {
-    if list.len() != n {
-        return false;
-    }
-    let mut once = true;
-    for i in 0..n {
-        once = once & (times(list, i) == 1);
-    }
-    once
+    list.len() == n && (0..n).all(|number| times(list, number) == 1)
 }

@@ -3,7 +3,7 @@
 use Prim.Native.Nat.{ℕ, suc, ◌+◌, ◌*◌, ◌^◌, ◌≤◌, ◌<◌}
 use mathlib.Core.Bool.{Bool, true, false, cond}
 use mathlib.Core.List.{List}
-use mathlib.Core.Path.{◌≡◌, refl, sym, ap, ◌∙◌, subst, subst₂}
+use mathlib.Core.Path.{◌≡◌, refl, sym, ap, ◌∙◌, subst}
 use native.Mathlib.Omega.{arith}
 use lib.Bits.{bit_or, or_lt}
 use lib.Dec.{eqb}
@@ -24,14 +24,14 @@ use Rattle.regular_model.proofs.Framed.{Framed}
 use Rattle.regular_model.proofs.Loop as loops
 use Rattle.regular_model.proofs.SetBytes.{held_lt, stored_placed}
 use Rattle.regular_sets.specs.Views.{frame, Advanced}
-use Rattle.regular_engine.specs.Computing.{direction, begins, Refreshable, RefreshedBy, Computable, ComputedBy, Iterable}
-use Rattle.regular_engine.proofs.Stepping.{framed, few_sets, node_small, block_room}
+use Rattle.regular_engine.specs.Computing.{way, begins, Refreshable, RefreshedBy, Computable, ComputedBy, Iterable}
+use Rattle.regular_engine.proofs.Stepping.{framed, Stated, few_sets, node_small, block_room}
 
--- where the rounds of binder j begin: x is its node, way its direction, m the set of its variable; its set is begun, from the area w to u
-pub record Begun (f : List ℕ) (p : Plan) (index w u : List ℕ) (j act grown : ℕ) (least : Bool) (x : Triple) (way m : ℕ) : Type 0 where
-  pub iterable : Iterable f p index w j act least
+-- where the rounds of binder j begin: x is its node, m the set of its variable; its set is begun, from the area w to u
+pub record Begun (f : List ℕ) (p : Plan) (w u : List ℕ) (j act grown : ℕ) (least : Bool) (x : Triple) (m : ℕ) : Type 0 where
+  pub stated : Stated f p
+  pub iterable : Iterable f p w j act least
   pub node : x ≡ p.nodes j
-  pub direct : way ≡ direction least
   pub mask : m ≡ 2 ^ x.1
   pub stored : Stored w u (64 * j) (begins least grown p.states (held_at w (64 * j)))
 
@@ -40,20 +40,20 @@ pub record TurningBy (f : List ℕ) (p : Plan) (u v : List ℕ) (j act : ℕ) (l
   pub long : length v ≡ length u
   pub is : Turning (frame (read f) p) (blocks u) (blocks v) j act least (p.nodes j).1 (p.nodes j).2 r moved
 
-module _ {f : List ℕ} {p : Plan} {index : List ℕ} where
+module _ {f : List ℕ} {p : Plan} where
   -- the variable's number is one of the variables, and the body is a lower node
-  pub operands_low : {w : List ℕ} {j act : ℕ} {least : Bool} {x : Triple} → Iterable f p index w j act least → x ≡ p.nodes j
+  pub operands_low : {w : List ℕ} {j act : ℕ} {least : Bool} {x : Triple} → Iterable f p w j act least → x ≡ p.nodes j
       → (x.1 < variables) × (x.2 < j)
   operands_low {j = j} I e = subst (λ (x : Triple). (x.1 < variables) × (x.2 < j)) (sym e)
-      (fits_bind (nodes_of p j) (node_fits I.computable.area.drawn.rule j I.computable.area.ready.below) I.binds)
+      (fits_bind (nodes_of p j) (node_fits I.computable.area.rule j I.computable.area.ready.below) I.binds)
 
-  module _ {w u : List ℕ} {j act grown : ℕ} {least : Bool} {x : Triple} {way m : ℕ}
-      (S : Begun f p index w u j act grown least x way m) where
-    C : Computable f p index w j act
+  module _ {w u : List ℕ} {j act grown : ℕ} {least : Bool} {x : Triple} {m : ℕ}
+      (S : Begun f p w u j act grown least x m) where
+    C : Computable f p w j act
     C = S.iterable.computable
 
     W : Framed (frame (read f) p)
-    W = framed C.area.drawn
+    W = framed f C.area.rule
 
     abbrev v : ℕ
     v = (p.nodes j).1
@@ -68,38 +68,38 @@ module _ {f : List ℕ} {p : Plan} {index : List ℕ} where
     begun_low = ((operands_low S.iterable S.node).1, node_small C.area)
 
     begin_set : begins least grown (length (read f).labels) (held_at w (64 * j)) < 2 ^ 256
-    begin_set = go (eqb (direction least) grown)
+    begin_set = go (eqb (way least) grown)
       where
         go : (t : Bool) → cond t (held_at w (64 * j)) (begin least (length (read f).labels)) < 2 ^ 256
         go true = held_lt w (64 * j)
-        go false = few_sets C.area.drawn _ (begin_small least (length (read f).labels))
+        go false = few_sets S.stated _ (begin_small least (length (read f).labels))
 
     placed : Placed (blocks w) (blocks u) j (begins least grown (length (read f).labels) (held_at w (64 * j)))
     placed = stored_placed j _ begin_set
-        (subst (λ n. Stored w u (64 * j) (begins least grown n (held_at w (64 * j)))) C.area.drawn.states S.stored)
+        (subst (λ n. Stored w u (64 * j) (begins least grown n (held_at w (64 * j)))) S.stated.states S.stored)
 
     wide : m ≡ 2 ^ v
     wide = S.mask ∙ ap (λ (t : Triple). 2 ^ t.1) S.node
 
-    some : 0 < direction least
-    some = elim least as (λ d. 0 < direction d) [ true ↦ omega arith | false ↦ omega arith ]
+    some : 0 < way least
+    some = elim least as (λ d. 0 < way d) [ true ↦ omega arith | false ↦ omega arith ]
 
-    flag : eqb (direction least) 1 ≡ least
-    flag = elim least as (λ d. eqb (direction d) 1 ≡ d) [ true ↦ refl | false ↦ refl ]
+    flag : eqb (way least) 1 ≡ least
+    flag = elim least as (λ d. eqb (way d) 1 ≡ d) [ true ↦ refl | false ↦ refl ]
 
     restart : Ready (frame (read f) p) (blocks u) (suc j) act
     unfolding table
-    restart = loops.restart W C.area.ready C.within least v b binds (direction least) grown some flag placed
+    restart = loops.restart W C.area.ready C.within least v b binds (way least) grown some flag placed
 
     pub turning_start : TurningBy f p u u j act least 0 0
     turning_start = record { long = refl; is = loops.turning_start W restart C.within least v b binds }
 
     -- after some rounds
     module _ {y : List ℕ} {r moved : ℕ} (T : TurningBy f p u y j act least r moved) where
-      pub round_refreshable : Refreshable f p index y j act (bit_or act m)
-      round_refreshable = subst (λ m. Refreshable f p index y j act (bit_or act m)) (sym wide) (record {
+      pub round_refreshable : Refreshable f p y j act (bit_or act m)
+      round_refreshable = subst (λ m. Refreshable f p y j act (bit_or act m)) (sym wide) (record {
         area = record {
-          drawn = C.area.drawn;
+          rule = C.area.rule;
           room = omega (arith, T.long, S.stored.long, C.area.room);
           mask = or_lt 18 act (2 ^ v) C.area.mask (pow-lt {i = v} {j = 18} (omega (arith, (operands_low S.iterable refl).0)));
           ready = loops.wide_ready W restart C.within least v b binds T.is.kept;
@@ -111,8 +111,8 @@ module _ {f : List ℕ} {p : Plan} {index : List ℕ} where
       unfolding table
       iterated_late h = record {
         long = T.long ∙ S.stored.long;
-        is = loops.computed_late W C.area.ready C.within least v b binds (direction least) grown some flag placed T.is
-            (omega (arith, C.area.drawn.states));
+        is = loops.computed_late W C.area.ready C.within least v b binds (way least) grown some flag placed T.is
+            (omega (arith, S.stated.states));
       }
 
       -- one more: the nodes below are computed, from y to z
@@ -134,19 +134,19 @@ module _ {f : List ℕ} {p : Plan} {index : List ℕ} where
           turned_long : length a ≡ length u
           turned_long = A.stored.long ∙ R.long ∙ T.long
 
-          pub turning_next : TurningBy f p u a j act least (r + 1) way
+          pub turning_next : TurningBy f p u a j act least (r + 1) (way least)
           turning_next =
               let e : suc r ≡ r + 1 = omega arith in
               record {
                 long = turned_long;
-                is = subst₂ (Turning (frame (read f) p) (blocks u) (blocks a) j act least v b) e (sym S.direct)
-                    (loops.turning_again W restart C.within least v b binds T.is lower.is moved_to (direction least) flag);
+                is = subst (λ r. Turning (frame (read f) p) (blocks u) (blocks a) j act least v b r (way least)) e
+                    (loops.turning_again W restart C.within least v b binds T.is lower.is moved_to (way least) flag);
               }
 
           pub iterated_early : change ≡ 0 → ComputedBy f p w a j act grown
           unfolding table
           iterated_early q = record {
             long = turned_long ∙ S.stored.long;
-            is = loops.computed_early W C.area.ready C.within least v b binds (direction least) grown some flag placed
+            is = loops.computed_early W C.area.ready C.within least v b binds (way least) grown some flag placed
                 T.is lower.is moved_to (body.stood q);
           }

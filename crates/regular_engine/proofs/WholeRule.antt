@@ -28,7 +28,7 @@ use Rattle.regular_model.specs.SetBytes.{byte_of}
 use Rattle.regular_model.specs.HeldSets.{blocks}
 use Rattle.regular_model.proofs.SetBytes.{held_set, byte_ext}
 use Rattle.regular_model.proofs.Root.{root_ready, root_right}
-use Rattle.regular_sets.specs.Views.{StepsInside, Viewed, Drawn, frame}
+use Rattle.regular_sets.specs.Views.{StepsInside, frame}
 use Rattle.regular_engine.specs.Computing.{Refreshable, RefreshedBy, Runnable, Ran}
 
 -- the section of steps is of whole triples and ends within the file
@@ -44,21 +44,17 @@ zero_at {w} {v} S k = ap (λ v. get_or v k 0) (zeroed S) ∙ zeros (length w) k
 zero_byte : (i : ℕ) → 0 ≡ byte_of 0 i
 zero_byte i = byte_ext 0 i 0 (omega arith) (λ t l. has_empty t ∙ sym (has_empty _))
 
-module _ {f : List ℕ} {p : Plan} {index w v : List ℕ} (R : Runnable f (length w)) (P : RulePlanned (read f) p) (E : Viewed f index)
-    (Z : Filled w v 0 (length w) (λ _. 0)) where
-  drawn : Drawn f p index
-  drawn = record { rule = P.sound; states = P.states; viewed = E }
-
+module _ {f : List ℕ} {p : Plan} {w v : List ℕ} (R : Runnable f (length w)) (P : RulePlanned (read f) p) (Z : Filled w v 0 (length w) (λ _. 0)) where
   cleared_sets : Sets (frame (read f) p) (blocks v)
   cleared_sets i = subst (λ x. x < 2 ^ (table (read f)).n)
       (sym (held_set 0 v (64 * i) (pow_pos 256) (λ k h. zero_at Z (64 * i + k) ∙ zero_byte k))) (pow_pos (table (read f)).n)
 
-  pub run_refreshable : Refreshable f p index v (p.root + 1) 0 65536
+  pub run_refreshable : Refreshable f p v (p.root + 1) 0 65536
   run_refreshable =
       let e : suc p.root ≡ p.root + 1 = omega arith in
       record {
         area = record {
-          drawn = drawn;
+          rule = P.sound;
           room = omega (arith, R.room, P.count, Z.long);
           mask = omega arith;
           ready = subst (λ k. Ready (frame (read f) p) (blocks v) k 65536) e

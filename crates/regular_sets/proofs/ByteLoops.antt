@@ -1,11 +1,12 @@
 -- Bytes of sets: one made of bits, the highest first; those of the set of all states; one that a loop did not touch yet; when | and ^ give 0.
 use Prim.Native.Nat.{ℕ, zero, suc, ◌+◌, ◌*◌, ◌-◌, ◌^◌, ◌≤◌, ◌<◌}
-use mathlib.Core.Bool.{true}
+use mathlib.Core.Bool.{Bool, true, false}
 use mathlib.Core.List.{List}
 use mathlib.Core.Path.{◌≡◌, refl, sym, ap, ◌∙◌}
 use native.Mathlib.Decide.{dec_lt}
 use native.Mathlib.Omega.{arith}
 use lib.ListN.{get_or}
+use mir.Val.{bool_byte}
 use lib.Bits.{bit_or, bit_xor, or_add_and, xor_add_and, and_le_l, and_le_r}
 use lib.Pow.{pow_mono}
 use Rattle.flc.specs.Sets.{has, bit, set_of}
@@ -28,6 +29,15 @@ bits_low x i t y h e = omega (arith, set_of_lt (8 - t) (λ u. has x (8 * i + (t 
 -- there is room for one more
 pub bits_room : (x i t y b : ℕ) → 0 < t → y ≡ bits_from x i t → b ≡ bit (has x (8 * i + (t - 1))) → 2 * y + b ≤ 255
 bits_room x i t y b h e q = omega (arith, bits_low x i t y h e, bit_le (has x (8 * i + (t - 1))))
+
+-- a bit as the code has it
+pub bit_is : (b : Bool) → bool_byte b ≡ bit b
+bit_is true = refl
+bit_is false = refl
+
+-- of the bits from t on there is room for one more
+pub more_room : (t : ℕ) {y b : ℕ} (d : Bool) → 0 < t → t ≤ 8 → y < 2 ^ (8 - t) → b ≡ bit d → 2 * y + b < 2 ^ (8 - (t - 1))
+more_room t d h k l e = let z : 8 - (t - 1) ≡ suc (8 - t) = omega arith in rw z (omega (arith, bit_le d, e))
 
 -- one bit more
 pub bits_turn : (x i t y b : ℕ) → 0 < t → t ≤ 8 → y ≡ bits_from x i t → b ≡ bit (has x (8 * i + (t - 1)))

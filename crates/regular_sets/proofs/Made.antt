@@ -2,7 +2,7 @@
 use Prim.Native.Nat.{ℕ, ◌+◌, ◌*◌, ◌≤◌, ◌<◌}
 use mathlib.Core.Bool.{Bool, true, false}
 use mathlib.Core.List.{List}
-use mathlib.Core.Path.{◌≡◌, sym, ap, ◌∙◌, subst}
+use mathlib.Core.Path.{◌≡◌, refl, sym, ap, ◌∙◌, subst}
 use native.Mathlib.Omega.{arith}
 use borrow.Author.Tests.{ltb-true}
 use lib.Bits.{bit_or, bit_and}
@@ -22,6 +22,7 @@ use Rattle.case_reader.specs.Read.{triple}
 use Rattle.case_reader.specs.NodeKinds.{line_of, operand_of, atom_with, op_of}
 use Rattle.case_reader.specs.declared.parts.Triple.{Triple}
 use Rattle.case_reader.specs.declared.kinds.Atom.{Atom}
+use Rattle.case_reader.specs.declared.kinds.Atom.TheVariants as atoms
 use Rattle.case_reader.specs.declared.kinds.Operator.{Operator}
 use Rattle.case_reader.specs.declared.kinds.Operator.TheVariants as operators
 use Rattle.case_reader.specs.declared.kinds.Kind.{Kind}
@@ -48,6 +49,17 @@ pub empty_set : (c : Case) {n : ℕ} → n ≡ length c.labels → set_of n (λ 
 unfolding mean_atom table
 empty_set c e = ap (λ n. set_of n (λ _. false)) e
 
+-- an atom that has no set of its own has that of ff
+pub other_atom : (x : Atom) (a : ℕ) → (x ≡ atoms.Top → ⊥) → (x ≡ atoms.Proposition → ⊥) → (x ≡ atoms.Complement → ⊥)
+    → constant_of (atom_with x a) ≡ bottom
+other_atom atoms.Top a t p n = absurd (t refl)
+other_atom atoms.Bottom a t p n = refl
+other_atom atoms.Proposition a t p n = absurd (p refl)
+other_atom atoms.Complement a t p n = absurd (n refl)
+other_atom atoms.Tau a t p n = refl
+other_atom (atoms.Action d) a t p n = refl
+other_atom (atoms.Group d) a t p n = refl
+
 -- what was stored for the atom that was found
 pub atom_stored : (c : Case) (a : ℕ) {w v : List ℕ} {base : ℕ} {x x' : Atom} → x ≡ x'
     → Stored w v base (mean_atom (table c) (constant_of (atom_with x' a)) 0) → Stored w v base (mean_atom (table c) (constant_of (atom_with x a)) 0)
@@ -58,7 +70,7 @@ atom_stored c a q S = stored_as S (ap (λ x. mean_atom (table c) (constant_of (a
 abbrev pub NodeStored : List ℕ → Plan → List ℕ → ℕ → Node → List ℕ → Type 0
 NodeStored f p w j x v = Stored w v (64 * j) (made (frame (read f) p) x (blocks w))
 
-module _ {f : List ℕ} {p : Plan} {index w : List ℕ} {j : ℕ} (F : Fillable f p index w j) where
+module _ {f : List ℕ} {p : Plan} {w : List ℕ} {j : ℕ} (F : Fillable f p w j) where
   -- where its block lies
   pub here : 64 * j + 32 ≤ length w
   here = omega (arith, F.there, F.room)
@@ -69,7 +81,7 @@ module _ {f : List ℕ} {p : Plan} {index w : List ℕ} {j : ℕ} (F : Fillable 
 
   module _ {t : Triple} (r : triple t ≡ p.nodes j) where
     holds : node_holds j (triple t) ≡ true
-    holds = subst (λ x. node_holds j x ≡ true) (sym r) (F.drawn.rule.kinds j F.there)
+    holds = subst (λ x. node_holds j x ≡ true) (sym r) (F.rule.kinds j F.there)
 
     -- ---- of a kind
     module _ {k : Kind} (e : line_of k ≡ kind_at t.0) where
@@ -98,7 +110,7 @@ module _ {f : List ℕ} {p : Plan} {index w : List ℕ} {j : ℕ} (F : Fillable 
       -- both lie below
       pub two_low : (t.1 < j) × (t.2 < j)
       unfolding nodes_of
-      two_low = go (nodes_of p j) (holds_fits j (p.nodes j) (F.drawn.rule.kinds j F.there)) operands_are
+      two_low = go (nodes_of p j) (holds_fits j (p.nodes j) (F.rule.kinds j F.there)) operands_are
         where
           go : {o : Op} {a b : ℕ} (n : Node) → Fits j n → n ≡ two o a b → (a < j) × (b < j)
           go _ (fits-constant x) q = absurd (let z : ◌≡◌ {A = ℕ} 0 1 = cc in omega arith)

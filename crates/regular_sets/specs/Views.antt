@@ -1,7 +1,7 @@
 -- What the code that makes sets is given, and what it leaves. The contracts of this crate and of the judge of regular rules cite these.
 use Rattle.std.specs.Prelude.{ℕ, ◌+◌, ◌*◌, ◌≤◌, ◌<◌, Bool, true, false, List, ◌≡◌, length}
 use Rattle.flc.specs.Sets.{has}
-use Rattle.flc.specs.Formula.{Atom, prop, nprop, modal, var}
+use Rattle.flc.specs.Formula.{Atom, prop, nprop, var}
 use Rattle.flc.specs.Nodes.{leaf, bind}
 use Rattle.case_model.specs.Bytes.{offset}
 use Rattle.case_model.specs.Case.{Case, read, table}
@@ -10,7 +10,6 @@ use Rattle.case_plan.specs.Plans.{Plan, nodes_of, SoundRule}
 use Rattle.regular_model.specs.Blocks.{Frame, Sets}
 use Rattle.regular_model.specs.HeldSets.{held_at, blocks, Stored}
 use Rattle.regular_model.specs.StepGroups.{Indexed}
-use Rattle.regular_sets.specs.declared.modal.Modality.{Modality}
 
 -- ---- the state table
 -- the steps lie in the file
@@ -37,14 +36,9 @@ abbrev pub label_atom : Bool → ℕ → Atom
 label_atom true p = prop p
 label_atom false p = nprop p
 
-abbrev pub modal_of : Modality → Atom
-modal_of m = modal m.some m.group
-
--- the actions of the group are among those from the first up to the last
-pub record Spans (m : Modality) : Type 0 where
-  pub low : (a : ℕ) → a < m.first → has m.group a ≡ false
-  pub high : (a : ℕ) → m.last ≤ a → a < 8 → has m.group a ≡ false
-  pub few : m.last ≤ 8
+-- each call of a test tells whether the state is in x
+abbrev pub Tells : (ℕ → Bool → Type 0) → ℕ → Type 0
+Tells test x = (s : ℕ) (b : Bool) → s < 256 → test s b → b ≡ has x s
 
 -- ---- sets in the area
 -- v is w with the set at b also at c; the change is 0 only if they were equal
@@ -62,15 +56,9 @@ pub record Taken (w : List ℕ) (a : ℕ) (x : List ℕ) : Type 0 where
 abbrev pub frame : Case → Plan → Frame
 frame c p = record { L = table c; N = nodes_of p; m = p.count; home = p.homes; scope = p.scopes }
 
--- a plan of the rule of a large case, with the places of its steps
-pub record Drawn (f : List ℕ) (p : Plan) (index : List ℕ) : Type 0 where
-  pub rule : SoundRule p
-  pub states : p.states ≡ length (read f).labels
-  pub viewed : Viewed f index
-
 -- all blocks have room and hold sets of states; the node is there and no binder, and a variable's binder is higher
-pub record Fillable (f : List ℕ) (p : Plan) (index w : List ℕ) (j : ℕ) : Type 0 where
-  pub drawn : Drawn f p index
+pub record Fillable (f : List ℕ) (p : Plan) (w : List ℕ) (j : ℕ) : Type 0 where
+  pub rule : SoundRule p
   pub room : 64 * p.count ≤ length w
   pub sets : Sets (frame (read f) p) (blocks w)
   pub there : j < p.count

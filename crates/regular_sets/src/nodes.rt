@@ -12,40 +12,39 @@ ghost use Rattle.regular_model.specs.HeldSets.{blocks, Stored};
 ghost use Rattle.regular_sets.specs.Views.{frame, Fillable};
 
 use crate::bytes::{constant, copy, intersection, union};
+use crate::drive::Drive;
 use crate::labels::label_set;
 use crate::modal::{modal_set, modality_at};
-use case_plan::{Plan, STATES, binder, node};
+use case_plan::Plan;
 use case_reader::{Atom, Kind, Operator, kind_of};
 
 // An atom with its operand a; τ and the modalities have no set of their own.
-fn fill_atom(work: &mut [u8], file: &[u8], n: usize, atom: Atom, a: usize, c: usize)
-    requires { (n ≡ length (read file.now).labels) × (n ≤ 256) × ((j : ℕ) → fits (operand_of atom) j a ≡ true) × (c + 32 ≤ length work.old) }
-    ensures { Stored work.old work.new c (mean_atom (table (read file.now)) (constant_of (atom_with atom a)) 0) }
+fn fill_atom(work: &mut [u8], drive: &Drive, atom: Atom, a: usize, c: usize)
+    requires { ((j : ℕ) → fits (operand_of atom) j a ≡ true) × (c + 32 ≤ length work.old) }
+    ensures { Stored work.old work.new c (mean_atom (table (read drive.now.file.now)) (constant_of (atom_with atom a)) 0) }
 {
     match atom {
-        Atom::Top => constant(work, n, true, c),
-        Atom::Bottom => constant(work, n, false, c),
-        Atom::Proposition => label_set(work, file, n, a, true, c),
-        Atom::Complement => label_set(work, file, n, a, false, c),
-        Atom::Tau => constant(work, n, false, c),
-        Atom::Action(_) => constant(work, n, false, c),
-        Atom::Group(_) => constant(work, n, false, c),
+        Atom::Top => constant(work, drive.states, true, c),
+        Atom::Proposition => label_set(work, drive, a, true, c),
+        Atom::Complement => label_set(work, drive, a, false, c),
+        _ => constant(work, drive.states, false, c),
     }
 }
 
+// The rule of a case, as it was planned, and the drive that it is judged on.
+#[derive(Clone, Copy)]
+pub struct Rule<'a> {
+    pub drive: Drive<'a>,
+    pub plan: &'a Plan,
+    ghost same_states: { (decoded plan.now).states ≡ drive.states },
+}
+
 // Two nodes under an operator.
-fn fill_two(
-    work: &mut [u8],
-    file: &[u8],
-    index: &[u16; 2049],
-    plan: &Plan,
-    j: usize,
-    operator: Operator,
-)
-    requires { Fillable file.now (decoded plan.now) index.now work.old j × (nodes_of (decoded plan.now) j ≡ two (op_of operator) ((decoded plan.now).nodes j).1 ((decoded plan.now).nodes j).2) }
-    ensures { Stored work.old work.new (64 * j) (made (frame (read file.now) (decoded plan.now)) (nodes_of (decoded plan.now) j) (blocks work.old)) }
+fn fill_two(work: &mut [u8], rule: &Rule, j: usize, operator: Operator)
+    requires { Fillable rule.now.drive.file.now (decoded rule.now.plan.now) work.old j × (nodes_of (decoded rule.now.plan.now) j ≡ two (op_of operator) ((decoded rule.now.plan.now).nodes j).1 ((decoded rule.now.plan.now).nodes j).2) }
+    ensures { Stored work.old work.new (64 * j) (made (frame (read rule.now.drive.file.now) (decoded rule.now.plan.now)) (nodes_of (decoded rule.now.plan.now) j) (blocks work.old)) }
 {
-    let x = node(plan, j);
+    let x = rule.plan.node(j);
     let a = 64 * x.1;
     let b = 64 * x.2;
     let c = 64 * j;
@@ -53,24 +52,23 @@ fn fill_two(
         Operator::Or => union(work, a, b, c),
         Operator::And => intersection(work, a, b, c),
         Operator::Chop => {
-            let left = modality_at(node(plan, x.1));
-            modal_set(work, file, index, left, plan[STATES], b, c)
+            let left = modality_at(rule.plan.node(x.1));
+            modal_set(work, &rule.drive, left, b, c)
         }
     }
 }
 
 // Node j, which is no binder.
-pub fn fill(work: &mut [u8], file: &[u8], index: &[u16; 2049], plan: &Plan, j: usize)
-    requires { Fillable file.now (decoded plan.now) index.now work.old j }
-    ensures { Stored work.old work.new (64 * j) (made (frame (read file.now) (decoded plan.now)) (nodes_of (decoded plan.now) j) (blocks work.old)) }
+pub fn fill(work: &mut [u8], rule: &Rule, j: usize)
+    requires { Fillable rule.now.drive.file.now (decoded rule.now.plan.now) work.old j }
+    ensures { Stored work.old work.new (64 * j) (made (frame (read rule.now.drive.file.now) (decoded rule.now.plan.now)) (nodes_of (decoded rule.now.plan.now) j) (blocks work.old)) }
 {
-    let x = node(plan, j);
+    let x = rule.plan.node(j);
     let c = 64 * j;
-    let kind = kind_of(x);
-    match kind {
-        Kind::Atom(atom) => fill_atom(work, file, plan[STATES], atom, x.1, c),
-        Kind::Variable => copy(work, 64 * binder(plan, x.1), c),
-        Kind::Two(operator) => fill_two(work, file, index, plan, j, operator),
+    match kind_of(x) {
+        Kind::Atom(atom) => fill_atom(work, &rule.drive, atom, x.1, c),
+        Kind::Variable => copy(work, 64 * rule.plan.binder(x.1), c),
+        Kind::Two(operator) => fill_two(work, rule, j, operator),
         Kind::Binder(_) => {}
     }
 }

@@ -15,15 +15,12 @@ fn next(file: &[u8], from: usize, k: usize) -> usize
     ensures { result ≡ first (λ i. leb k (key (read file.now).steps i)) from (length (read file.now).steps - from) }
 {
     let count = step_count(file);
-    let mut i = from;
-    while i < count {
-        let x = step(file, i);
-        if k <= 8 * x.0 + x.1 {
-            return i;
-        }
-        i += 1;
-    }
-    i
+    (from..count)
+        .find(|i| {
+            let x = step(file, *i);
+            k <= 8 * x.0 + x.1
+        })
+        .unwrap_or(count)
 }
 
 // One pass over the steps: each search goes on where the last one ended.
@@ -34,11 +31,9 @@ pub fn step_index(file: &[u8]) -> [u16; 2049]
     let count = 8 * state_count(file) + 1;
     let mut index = [0u16; 2049];
     let mut at: usize = 0;
-    let mut k: usize = 0;
-    while k < count {
+    for k in 0..count {
         at = next(file, at, k);
         index[k] = at as u16;
-        k += 1;
     }
     index
 }

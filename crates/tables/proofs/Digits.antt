@@ -1,4 +1,4 @@
--- Sets as numbers, beyond the laws of flc: when | and ^ give 0, one state more, and one left out.
+-- Sets as numbers, beyond the laws of flc: one state more, and one left out.
 -- By induction on the state: the lowest digit, then the half.
 use Prim.Native.Nat.{ℕ, zero, suc, ◌+◌, ◌-◌, ◌*◌, ◌/◌, ◌%◌, ◌^◌, ◌<◌}
 use mathlib.Core.Bool.{false}
@@ -8,19 +8,9 @@ use native.Mathlib.Nat.{le_of_suc-le-suc, not-suc-le-zero}
 use native.Mathlib.Omega.{arith}
 use borrow.Author.Tests.{eq-eqb, ne_eqb, eqb-false}
 use lib.Dec.{eqb, eqb-suc-suc}
-use lib.Bits.{bit_or, bit_xor, or_add_and, xor_add_and, and_le_l, and_le_r, xor_self}
 use lib.Pow.{pow_pos, pow_mono}
 use Rattle.flc.specs.Sets.{either, has}
 use Rattle.flc.proofs.Masks.{has_zero, has_suc}
-
-pub or_zero : (a b : ℕ) → bit_or a b ≡ 0 → (a ≡ 0) × (b ≡ 0)
-or_zero a b e = omega (arith, or_add_and a b, and_le_l a b, and_le_r a b)
-
-pub xor_zero : (a b : ℕ) → bit_xor a b ≡ 0 → a ≡ b
-xor_zero a b e = omega (arith, xor_add_and a b, and_le_l a b, and_le_r a b)
-
-pub zero_or_xor : (d a b : ℕ) → d ≡ 0 → a ≡ b → bit_or d (bit_xor a b) ≡ 0
-zero_or_xor d a b p q = rw (p, q, xor_self)
 
 -- a set with one state more
 pub has_add : (s t x : ℕ) → has x s ≡ false → has (x + 2 ^ s) t ≡ either (eqb t s) (has x t)

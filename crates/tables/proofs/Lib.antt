@@ -1,4 +1,3 @@
-pub mod Comparing
 pub mod Digits
 pub mod Sizes
 pub mod Gathering

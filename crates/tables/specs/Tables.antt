@@ -1,17 +1,11 @@
 -- Tables in the work area, as the contracts of the functions on them say it: a table has one word for each set of states.
-use Rattle.std.specs.Prelude.{ℕ, ◌+◌, ◌≤◌, ◌<◌, Bool, cond, List, ◌≡◌, length}
+use Rattle.std.specs.Prelude.{ℕ, ◌+◌, ◌≤◌, ◌<◌, Bool, cond, List, length}
 use Rattle.std.specs.Int.Bits.{bit_or, bit_and}
 use Rattle.flc.specs.Functions.{Fun}
 use Rattle.flc.specs.Sets.{set_of}
 use Rattle.flc.specs.Formula.{Atom, Op, or, and, chop, steps_by, mean_atom}
 use Rattle.case_model.specs.Areas.{Filled, from}
 use Rattle.case_plan.specs.Plans.{Plan, table_of}
-
--- the table at c became that at b, and r is 0 just if it was that already
-pub record Advanced (w v : List ℕ) (b c count r : ℕ) : Type 0 where
-  pub filled : Filled w v c count (from w b)
-  pub stood : r ≡ 0 → (x : ℕ) → x < count → from w b x ≡ from w c x
-  pub stands : ((x : ℕ) → x < count → from w b x ≡ from w c x) → r ≡ 0
 
 -- two tables under an operator
 abbrev pub combined : Op → Fun → Fun → Fun

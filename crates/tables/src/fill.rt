@@ -7,7 +7,7 @@ ghost use Rattle.tables.specs.Tables.{AtomFilled, Beneath, OperatorFilled};
 
 use crate::modal::modality;
 use crate::words::{chop, constant, identity, intersection, union};
-use case_plan::{Plan, SIZE, prop};
+use case_plan::Plan;
 use case_reader::{Atom, Operator};
 
 // An atom with its operand a.
@@ -15,13 +15,13 @@ pub fn fill_atom(work: &mut [u16], plan: &Plan, atom: Atom, a: usize, c: usize)
     requires { Sized (decoded plan.now) × ((j : ℕ) → fits (operand_of atom) j a ≡ true) × (c + (decoded plan.now).size ≤ length work.old) }
     ensures { AtomFilled (decoded plan.now) work.old work.new c (atom_with atom a) }
 {
-    let size = plan[SIZE];
+    let size = plan.size;
     let full = (size - 1) as u16;
     match atom {
         Atom::Top => constant(work, size, c, full),
         Atom::Bottom => constant(work, size, c, 0),
-        Atom::Proposition => constant(work, size, c, prop(plan, a)),
-        Atom::Complement => constant(work, size, c, full - prop(plan, a)),
+        Atom::Proposition => constant(work, size, c, plan.prop(a)),
+        Atom::Complement => constant(work, size, c, full - plan.prop(a)),
         Atom::Tau => identity(work, size, c),
         Atom::Action(some) => modality(work, plan, some, 1 << a, c),
         Atom::Group(some) => modality(work, plan, some, a, c),

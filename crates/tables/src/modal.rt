@@ -1,35 +1,23 @@
 // The tables of the modalities, by doubling.
-ghost use Rattle.std.specs.Prelude.{cond, ◌≡◌, ◌+◌, ◌*◌, ◌≤◌, ◌<◌, length};
-ghost use Rattle.flc.specs.Sets.{has};
+ghost use Rattle.std.specs.Prelude.{◌≡◌, ◌+◌, ◌≤◌, ◌<◌, length};
 ghost use Rattle.flc.specs.Formula as logic;
-ghost use Rattle.flc.specs.Formula.{actions};
 ghost use Rattle.case_plan.specs.Plans.{decoded, Sized};
 ghost use Rattle.tables.specs.Tables.{AtomFilled, edge, sources_by};
 
 use crate::words::{constant, narrow, widen};
-use case_plan::{Plan, SIZE, STATES, source};
-use case_reader::Kind;
+use case_plan::Plan;
+use case_reader::{Kind, has};
 
-// The states with a step to t by action a, if it is in the group; else none.
-fn by_action(plan: &Plan, group: usize, a: usize, t: usize) -> u16
-    requires { Sized (decoded plan.now) × (a < actions) × (t < (decoded plan.now).states) }
-    ensures { result ≡ cond (has group a) ((decoded plan.now).sources (8 * t + a)) 0 }
-{
-    if (group >> a) % 2 == 1 {
-        source(plan, a, t)
-    } else {
-        0
-    }
-}
-
-// Those by all actions of the group.
+// The states with a step to t by an action of the group.
 fn sources_by(plan: &Plan, group: usize, t: usize) -> u16
     requires { Sized (decoded plan.now) × (t < (decoded plan.now).states) }
     ensures { result ≡ sources_by (decoded plan.now) group t }
 {
-    let mut states: u16 = 0;
+    let mut states = 0;
     for a in 0..Kind::ACTIONS {
-        states = states | by_action(plan, group, a, t);
+        if has(group as u64, a) {
+            states |= plan.source(a, t);
+        }
     }
     states
 }
@@ -47,19 +35,18 @@ pub(crate) fn modality(work: &mut [u16], plan: &Plan, some: bool, group: usize, 
     requires { Sized (decoded plan.now) × (c + (decoded plan.now).size ≤ length work.old) }
     ensures { AtomFilled (decoded plan.now) work.old work.new c (logic.modal some group) }
 {
-    let n = plan[STATES];
-    let first = edge(some, plan[SIZE] - 1);
+    let first = edge(some, plan.size - 1);
     let mut d = c + first;
     constant(work, 1, d, first as u16);
-    let mut h: usize = 1;
-    for s in 0..n {
+    let mut h = 1;
+    for s in 0..plan.states {
         let p = sources_by(plan, group, s);
         if some {
             widen(work, h, d, p);
         } else {
-            d = d - h;
-            narrow(work, h, d, 65535 - p);
+            d -= h;
+            narrow(work, h, d, u16::MAX - p);
         }
-        h = h * 2;
+        h *= 2;
     }
 }

@@ -1,25 +1,24 @@
 // Tables in the work area. A table is `count` words from a base on; each function fills one from others, entry by entry.
 ghost use Rattle.std.specs.Prelude.{◌≡◌, ℕ, ◌+◌, ◌≤◌, ◌<◌, length, replicate};
 ghost use Rattle.std.specs.Int.Bits.{bit_or, bit_and};
-ghost use Rattle.tables.specs.Tables.{Advanced};
 ghost use Rattle.case_model.specs.Areas.{Filled, from};
+ghost use Rattle.areas.specs.Runs.{Advanced};
+
+use areas::fill;
 
 // One value everywhere.
 pub fn constant(work: &mut [u16], count: usize, c: usize, v: u16)
     requires { c + count ≤ length work.old }
     ensures { Filled work.old work.new c count (λ _. v) }
 {
-    for i in 0..count {
-        work[c + i] = v;
-    }
+    work[c..c + count].fill(v);
 }
 
 // Nothing of an answer's work is left in the area.
 pub fn clear(work: &mut [u16])
     ensures { work.new ≡ replicate (length work.old) 0 }
 {
-    let words = work.len();
-    constant(work, words, 0, 0);
+    work.fill(0);
 }
 
 // Each set for itself.
@@ -27,9 +26,7 @@ pub(crate) fn identity(work: &mut [u16], count: usize, c: usize)
     requires { (c + count ≤ length work.old) × (count ≤ 65536) }
     ensures { Filled work.old work.new c count (λ x. x) }
 {
-    for i in 0..count {
-        work[c + i] = i as u16;
-    }
+    fill(&mut work[c..c + count], |i| i as u16);
 }
 
 // The table at a, which lies above.
@@ -37,9 +34,7 @@ pub fn copy(work: &mut [u16], count: usize, a: usize, c: usize)
     requires { (c + count ≤ a) × (a + count ≤ length work.old) }
     ensures { Filled work.old work.new c count (from work.old a) }
 {
-    for i in 0..count {
-        work[c + i] = work[a + i];
-    }
+    work.copy_within(a..a + count, c);
 }
 
 // The unions of the tables at a and b.
@@ -47,9 +42,8 @@ pub(crate) fn union(work: &mut [u16], count: usize, a: usize, b: usize, c: usize
     requires { (a + count ≤ c) × (b + count ≤ c) × (c + count ≤ length work.old) }
     ensures { Filled work.old work.new c count (λ x. bit_or (from work.old a x) (from work.old b x)) }
 {
-    for i in 0..count {
-        work[c + i] = work[a + i] | work[b + i];
-    }
+    let (below, rest) = work.split_at_mut(c);
+    fill(&mut rest[..count], |i| below[a + i] | below[b + i]);
 }
 
 // Their intersections.
@@ -57,9 +51,8 @@ pub(crate) fn intersection(work: &mut [u16], count: usize, a: usize, b: usize, c
     requires { (a + count ≤ c) × (b + count ≤ c) × (c + count ≤ length work.old) }
     ensures { Filled work.old work.new c count (λ x. bit_and (from work.old a x) (from work.old b x)) }
 {
-    for i in 0..count {
-        work[c + i] = work[a + i] & work[b + i];
-    }
+    let (below, rest) = work.split_at_mut(c);
+    fill(&mut rest[..count], |i| below[a + i] & below[b + i]);
 }
 
 // The table at a of the table at b.
@@ -67,10 +60,8 @@ pub(crate) fn chop(work: &mut [u16], count: usize, a: usize, b: usize, c: usize)
     requires { (a + count ≤ c) × (b + count ≤ c) × (c + count ≤ length work.old) × ((x : ℕ) → x < count → from work.old b x < count) }
     ensures { Filled work.old work.new c count (λ x. from work.old a (from work.old b x)) }
 {
-    for i in 0..count {
-        let y = work[b + i] as usize;
-        work[c + i] = work[a + y];
-    }
+    let (below, rest) = work.split_at_mut(c);
+    fill(&mut rest[..count], |i| below[a + below[b + i] as usize]);
 }
 
 // The `count` words after those at c: the same with the set p added.
@@ -78,10 +69,8 @@ pub(crate) fn widen(work: &mut [u16], count: usize, c: usize, p: u16)
     requires { c + count + count ≤ length work.old }
     ensures { Filled work.old work.new (c + count) count (λ x. bit_or (from work.old c x) p) }
 {
-    let d = c + count;
-    for i in 0..count {
-        work[d + i] = work[c + i] | p;
-    }
+    let (below, rest) = work.split_at_mut(c + count);
+    fill(&mut rest[..count], |i| below[c + i] | p);
 }
 
 // The `count` words at c: those after them, cut down to the set q.
@@ -89,22 +78,16 @@ pub(crate) fn narrow(work: &mut [u16], count: usize, c: usize, q: u16)
     requires { c + count + count ≤ length work.old }
     ensures { Filled work.old work.new c count (λ x. bit_and (from work.old (c + count) x) q) }
 {
-    let d = c + count;
-    for i in 0..count {
-        work[c + i] = work[d + i] & q;
-    }
+    let (_, run) = work.split_at_mut(c);
+    let (low, high) = run.split_at_mut(count);
+    fill(low, |i| high[i] & q);
 }
 
-// The table at b, below. The answer is 0 just if nothing changed.
-pub fn advance(work: &mut [u16], count: usize, b: usize, c: usize) -> u16
+// The table at b, below. Did that change anything?
+pub fn advance(work: &mut [u16], count: usize, b: usize, c: usize) -> bool
     requires { (b + count ≤ c) × (c + count ≤ length work.old) }
     ensures { Advanced work.old work.new b c count result }
 {
-    let mut change: u16 = 0;
-    for i in 0..count {
-        let v = work[b + i];
-        change = change | (v ^ work[c + i]);
-        work[c + i] = v;
-    }
-    change
+    let (below, rest) = work.split_at_mut(c);
+    areas::advance(&mut rest[..count], &below[b..b + count])
 }

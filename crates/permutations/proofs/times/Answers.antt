@@ -1,39 +1,25 @@
--- `permutations::times` meets its contract: the count so far and the rest of the list make up the whole.
+-- `permutations::times` meets its contract: the items that are the number are counted.
+use Prim.Native.Nat.{ℕ, ◌+◌}
 use borrow.Author.Rules.{rules}
-use Prim.Native.Nat.{◌+◌, ◌-◌, ◌≤◌}
-use mathlib.Core.Path.{◌≡◌}
-use native.Mathlib.Omega.{arith}
-use mir.Val.{bool_byte}
+use mathlib.Core.Bool.{true, false, cond}
+use mathlib.Core.List.{List, ◌∷◌}
+use mathlib.Core.Path.{◌≡◌, refl, sym, ◌∙◌}
 use lib.Dec.{eqb}
-use lib.ListN.{get_or, drop}
-use Rattle.flc.proofs.Masks.{bit_le}
-use Rattle.flc.specs.Permutations.{times}
-use Rattle.permutations.proofs.Counting.{test_bit, times_more, times-end}
+use native.Mathlib.Omega.{arith}
+use Rattle.flc.specs.Sets.{bit}
+use Rattle.std.specs.Prelude.{◌==◌, count_by}
+use Rattle.std.proofs.lemmas.List.Recursion.{is_count_by}
+use Rattle.flc.specs.Permutations.{sum_over, times}
 use Rattle.permutations.proofs.times.Goals as goal
 
-pub overflow_cast-count : goal.overflow_cast-count
-overflow_cast-count c = omega (arith, c.type_inv.list c.loop-k.k)
-
--- one element more, as the code counts it
-one_more : (c : goal.After-shared_slice_known-1)
-    → let a = c.args in
-    let k = c.loop-k.k in
-    let b = bool_byte (eqb (get_or a.list.now k 0) a.number) in
-    (b ≤ 1) × (times a.number (drop k a.list.now) ≡ b + times a.number (drop (k + 1) a.list.now))
-one_more c =
-    let a = c.args in
-    let k = c.loop-k.k in
-    let b = eqb (get_or a.list.now k 0) a.number in
-    let e = test_bit b in
-    (omega (arith, e, bit_le b), omega (arith, e, times_more a.number a.list.now k (omega arith)))
-
-pub overflow_add-count : goal.overflow_add-count
-overflow_add-count c = omega (arith, one_more c)
-
-pub loop-k-preserved : goal.loop-k-preserved
-loop-k-preserved c = (omega arith, omega (arith, one_more c), omega (arith, one_more c))
+counted : (i : ℕ) (l : List ℕ) → times i l ≡ count_by (λ j. j == i) l
+unfolding times sum_over
+counted i l = is_count_by (times i) (λ j. j == i) refl more l
+  where
+    more : (j : ℕ) (l : List ℕ) → times i (j ∷ l) ≡ cond (j == i) (1 + times i l) (times i l)
+    more j l = elim (eqb j i) as (λ b. bit b + times i l ≡ cond b (1 + times i l) (times i l)) [ true ↦ refl | false ↦ omega arith ]
 
 pub returns : goal.returns
 returns c =
-    let a = c.args in
-    omega (arith, times-end a.number a.list.now c.loop-k.k (omega arith))
+    let all : c.count.result ≡ count_by (λ j. j == c.args.number) c.args.list.now = search rules in
+    all ∙ sym (counted c.args.number c.args.list.now)

@@ -15,18 +15,18 @@ overflow_mul-c c =
 pub fill_atom-requires : goal.fill_atom-requires
 fill_atom-requires c =
     let F = c.requires in
-    (F.sound.sized, operand_fits F c.node-x.ensures c.kind_of-kind.ensures c.in-Atom.is, here F)
+    (F.sound.sized, operand_fits F c.node-x.ensures c.kind_of.ensures c.in-Atom.is, here F)
 
 pub binder-requires : goal.binder-requires
 binder-requires c =
-    (variable_low c.requires c.node-x.ensures c.kind_of-kind.ensures c.in-Variable.is).0
+    (variable_low c.requires c.node-x.ensures c.kind_of.ensures c.in-Variable.is).0
 
 pub overflow_mul-binder : goal.overflow_mul-binder
 overflow_mul-binder c =
     let F = c.requires in
     let size = (decoded c.args.plan.now).size in
     let m = (decoded c.args.plan.now).count in
-    let (a, h, l) = variable_low F c.node-x.ensures c.kind_of-kind.ensures c.in-Variable.is in
+    let (a, h, l) = variable_low F c.node-x.ensures c.kind_of.ensures c.in-Variable.is in
     omega (arith, apart size c.binder.result m (rw c.binder.ensures l), F.room)
 
 pub copy-requires : goal.copy-requires
@@ -34,49 +34,49 @@ copy-requires c =
     let F = c.requires in
     let size = (decoded c.args.plan.now).size in
     let m = (decoded c.args.plan.now).count in
-    let (a, h, l) = variable_low F c.node-x.ensures c.kind_of-kind.ensures c.in-Variable.is in
+    let (a, h, l) = variable_low F c.node-x.ensures c.kind_of.ensures c.in-Variable.is in
     (apart size _ c.binder.result (rw c.binder.ensures h), omega (arith, apart size c.binder.result m (rw c.binder.ensures l), F.room))
 
 pub overflow_mul-x : goal.overflow_mul-x
 overflow_mul-x c =
     let F = c.requires in
     let size = (decoded c.args.plan.now).size in
-    let (a, b) = two_low F c.node-x.ensures c.kind_of-kind.ensures c.in-Two.is in
+    let (a, b) = two_low F c.node-x.ensures c.kind_of.ensures c.in-Two.is in
     omega (arith, apart size c.node-x.result.1 c.args.j a, here F, c.well_formed)
 
 pub overflow_mul-x-in-Two : goal.overflow_mul-x-in-Two
 overflow_mul-x-in-Two c =
     let F = c.requires in
     let size = (decoded c.args.plan.now).size in
-    let (a, b) = two_low F c.node-x.ensures c.kind_of-kind.ensures c.in-Two.is in
+    let (a, b) = two_low F c.node-x.ensures c.kind_of.ensures c.in-Two.is in
     omega (arith, apart size c.node-x.result.2 c.args.j b, here F, c.well_formed)
 
 pub fill_two-requires : goal.fill_two-requires
 fill_two-requires c =
     let F = c.requires in
     let size = (decoded c.args.plan.now).size in
-    let (a, b) = two_low F c.node-x.ensures c.kind_of-kind.ensures c.in-Two.is in
+    let (a, b) = two_low F c.node-x.ensures c.kind_of.ensures c.in-Two.is in
     record {
       first = apart size _ _ a;
       second = apart size _ _ b;
       room = here F;
-      sets = two_sets F c.node-x.ensures c.kind_of-kind.ensures c.in-Two.is;
+      sets = two_sets F c.node-x.ensures c.kind_of.ensures c.in-Two.is;
     }
 
 pub returns-in-Atom : goal.returns-in-Atom
 returns-in-Atom c =
     let F = c.requires in
-    atom_done F c.node-x.ensures c.kind_of-kind.ensures c.in-Atom.is c.fill_atom.ensures
+    atom_done F c.node-x.ensures c.kind_of.ensures c.in-Atom.is c.fill_atom.ensures
 
 pub returns-in-Variable : goal.returns-in-Variable
 returns-in-Variable c =
-    variable_done c.requires c.node-x.ensures c.kind_of-kind.ensures c.in-Variable.is
+    variable_done c.requires c.node-x.ensures c.kind_of.ensures c.in-Variable.is
     (rw c.binder.ensures at c.copy.ensures)
 
 pub returns-in-Two : goal.returns-in-Two
 returns-in-Two c =
-    done c.requires c.node-x.ensures c.kind_of-kind.ensures c.in-Two.is c.fill_two.ensures
+    done c.requires c.node-x.ensures c.kind_of.ensures c.in-Two.is c.fill_two.ensures
 
 pub returns-in-Binder : goal.returns-in-Binder
 returns-in-Binder c =
-    absurd (no_binder c.requires c.node-x.ensures c.kind_of-kind.ensures c.in-Binder.is)
+    absurd (no_binder c.requires c.node-x.ensures c.kind_of.ensures c.in-Binder.is)

@@ -1,24 +1,24 @@
 -- `engine::refresh::refresh`, `compute`, `rounds` and `round` meet their contracts. What each step needs stands in Refreshing, Settling, Iterating and
 -- Turns; here the places of the code are tied to it.
-use Prim.Native.Nat.{ℕ, suc, ◌+◌, ◌-◌, ◌*◌, ◌≤◌}
+use Prim.Native.Nat.{ℕ, suc, ◌+◌, ◌*◌, ◌≤◌}
 use mathlib.Core.List.{List}
-use mathlib.Core.Path.{sym, ap, ◌∙◌, subst}
+use mathlib.Core.Path.{◌≡◌, sym, ap, ◌∙◌, subst}
 use native.Mathlib.Omega.{arith}
 use lib.Bits.{bit_or}
 use lib.ListN.{length}
 use Rattle.case_plan.specs.Plans.{Plan, decoded}
 use Rattle.case_plan.proofs.KnownNodes.{known, other_kind}
-use Rattle.case_plan.proofs.Scopes.{scope_small}
 use Rattle.tables.proofs.Sizes.{size_some}
 use Rattle.engine.specs.declared.refresh.Binder.{Binder}
-use Rattle.engine.specs.Computing.{Ready, Refreshable, Refreshed, Iterable}
+use Rattle.engine.specs.Computing.{Ready, Refreshable, Refreshed, Iterable, Iterated}
 use Rattle.engine.proofs.Frames.{apart}
-use Rattle.engine.proofs.Refreshing.{not_zero, refresh_none, last_there, refresh_lower, skip_out, skip_old, computable, one_more}
+use Rattle.engine.proofs.Refreshing.{refresh_lower, skip_out, skip_old, computable, one_more}
 use Rattle.engine.proofs.Refreshing.{fillable, computed_plain}
 use Rattle.engine.proofs.Turns.{binds_low, binder_here, body_under, round_refreshable, rounded}
 use Rattle.engine.proofs.Iterating.{turning_start, turning_roundable, turning_next, iterated_still, iterated_most}
 use Rattle.engine.proofs.Settling.{limit_small, iterable, computed_binder}
 use Rattle.engine.proofs.refresh.+compute_refresh_round_rounds.Goals as goal
+use Rattle.engine.proofs.refresh.+compute_refresh_round_rounds.Goals.{refresh-else-scope-act-via-then-scope-act+else-scope-old, refresh-else-scope-act-via-else-scope-act}
 
 -- ---- compute
 -- the block of node j has room
@@ -32,12 +32,12 @@ compute-node-x-requires t c = omega (arith, c.requires.ready.below, c.requires.r
 
 pub compute-fill-requires : goal.compute-fill-requires
 compute-fill-requires t c =
-    fillable c.requires (other_kind (decoded c.args.plan.now) c.args.j c.node-x.ensures c.kind_of-kind.result c.kind_of-kind.ensures c.in_default.not-Binder)
+    fillable c.requires (other_kind (decoded c.args.plan.now) c.args.j c.node-x.ensures c.kind_of.result c.kind_of.ensures c.in_default.not-Binder)
 
 pub compute-returns-in_default : goal.compute-returns-in_default
 compute-returns-in_default t c =
     computed_plain c.requires
-    (other_kind (decoded c.args.plan.now) c.args.j c.node-x.ensures c.kind_of-kind.result c.kind_of-kind.ensures c.in_default.not-Binder) c.fill.ensures
+    (other_kind (decoded c.args.plan.now) c.args.j c.node-x.ensures c.kind_of.result c.kind_of.ensures c.in_default.not-Binder) c.fill.ensures
 
 pub compute-overflow_mul-j : goal.compute-overflow_mul-j
 compute-overflow_mul-j t c = omega (arith, room c.requires.ready, c.well_formed)
@@ -54,8 +54,8 @@ compute-rounds-requires t c =
     let x = c.node-x.result in
     let B : Binder = record { node = c.args.j; variable = x.1; body = x.2 } in (
       omega (arith, c.decreases),
-      subst (Iterable p c.begin.new.work B c.args.act) (sym c.direction.ensures)
-          (iterable B c.in-Binder.least c.requires (known p c.args.j c.node-x.ensures c.kind_of-kind.ensures c.in-Binder.is) c.begin.ensures),
+      subst (Iterable p c.begin.new.work B c.args.act) (sym c.of.ensures)
+          (iterable B c.in-Binder.least c.requires (known p c.args.j c.node-x.ensures c.kind_of.ensures c.in-Binder.is) c.begin.ensures),
     )
 
 pub compute-returns : goal.compute-returns
@@ -63,50 +63,37 @@ compute-returns t c =
     let p = decoded c.args.plan.now in
     let x = c.node-x.result in
     let B : Binder = record { node = c.args.j; variable = x.1; body = x.2 } in
-    computed_binder B c.in-Binder.least c.requires (known p c.args.j c.node-x.ensures c.kind_of-kind.ensures c.in-Binder.is)
+    computed_binder B c.in-Binder.least c.requires (known p c.args.j c.node-x.ensures c.kind_of.ensures c.in-Binder.is)
     c.begin.ensures (omega (arith, c.requires.ready.sound.limit)) c.rounds.ensures
 
 -- ---- refresh
-pub refresh-returns-then-k-eq0 : goal.refresh-returns-then-k-eq0
-refresh-returns-then-k-eq0 t c = refresh_none c.args.old c.args.act c.if-k-eq0.true
-
 pub refresh-refresh-requires : goal.refresh-refresh-requires
 refresh-refresh-requires t c =
-    let e = not_zero c.args.k c.if-k-eq0.false in
-    (omega (arith, c.decreases, e), refresh_lower (c.args.k - 1) c.requires e)
-
-pub refresh-scope-u-requires : goal.refresh-scope-u-requires
-refresh-scope-u-requires t c =
-    let R = c.requires in
-    let j = c.args.k - 1 in
-    let there = last_there j R (not_zero c.args.k c.if-k-eq0.false) in
-    (omega (arith, there, R.ready.sound.rule.most), scope_small R.ready.sound.rule j there)
-
-pub refresh-returns-then-in_act-act : goal.refresh-returns-then-in_act-act
-refresh-returns-then-in_act-act t c =
-    skip_out (c.args.k - 1) c.requires (not_zero c.args.k c.if-k-eq0.false) c.refresh.ensures
-    (λ z. c.if-in_act-act.true (ap (λ u. bit_or u c.args.act) c.scope-u.ensures ∙ z))
-
-pub refresh-returns-then-in_old-old : goal.refresh-returns-then-in_old-old
-refresh-returns-then-in_old-old t c =
-    skip_old (c.args.k - 1) c.requires (not_zero c.args.k c.if-k-eq0.false) c.refresh.ensures
-    (ap (λ u. bit_or u c.args.old) (sym c.scope-u.ensures) ∙ c.if-in_old-old.true)
+    let e : c.args.k ≡ suc c.in-Some.j = omega (arith, c.in-Some.ensures) in
+    (omega (arith, c.decreases, e), refresh_lower c.in-Some.j c.requires e)
 
 pub refresh-compute-requires : goal.refresh-compute-requires
 refresh-compute-requires t c =
-    let e = not_zero c.args.k c.if-k-eq0.false in (
+    let e : c.args.k ≡ suc c.in-Some.j = omega (arith, c.in-Some.ensures) in (
       omega (arith, c.decreases, e),
-      computable (c.args.k - 1) c.requires e c.refresh.ensures
-          (ap (λ u. bit_or u c.args.act) (sym c.scope-u.ensures) ∙ c.if-in_act-act.false),
+      computable c.in-Some.j c.requires e c.refresh.ensures (ap (λ u. bit_or u c.args.act) (sym c.scope-scope.ensures) ∙ c.if-scope-act.true),
     )
 
-pub refresh-returns : goal.refresh-returns
-refresh-returns t c =
-    let same = c.scope-u.ensures in
-    one_more (c.args.k - 1) c.requires (not_zero c.args.k c.if-k-eq0.false) c.refresh.ensures
-    (ap (λ u. bit_or u c.args.act) (sym same) ∙ c.if-in_act-act.false)
-    (λ z. c.if-in_old-old.false (ap (λ u. bit_or u c.args.old) same ∙ z))
-    c.compute.ensures
+pub refresh-returns-then-scope-old : goal.refresh-returns-then-scope-old
+refresh-returns-then-scope-old t c =
+    let e : c.args.k ≡ suc c.in-Some.j = omega (arith, c.in-Some.ensures) in
+    let same = c.scope-scope.ensures in
+    one_more c.in-Some.j c.requires e c.refresh.ensures (ap (λ u. bit_or u c.args.act) (sym same) ∙ c.if-scope-act.true)
+    (λ z. c.if-scope-old.true (ap (λ u. bit_or u c.args.old) same ∙ z)) c.compute.ensures
+
+pub refresh-returns-else-scope-act : goal.refresh-returns-else-scope-act
+refresh-returns-else-scope-act t c =
+    let e : c.args.k ≡ suc c.in-Some.j = omega (arith, c.in-Some.ensures) in
+    let same = c.scope-scope.ensures in
+    elim c.else-scope-act.branch [
+      | refresh-else-scope-act-via-then-scope-act+else-scope-old w ↦ skip_old c.in-Some.j c.requires e c.refresh.ensures (ap (λ u. bit_or u c.args.old) (sym same) ∙ w.if-scope-old.false)
+      | refresh-else-scope-act-via-else-scope-act w ↦ skip_out c.in-Some.j c.requires e c.refresh.ensures (λ z. w.if-scope-act.false (ap (λ u. bit_or u c.args.act) same ∙ z))
+    ]
 
 -- ---- round
 pub round-variable-requires : goal.round-variable-requires
@@ -125,8 +112,8 @@ round-overflow_mul-x t c =
     let B = c.requires.binds in
     omega (arith, body_under B, binder_here B, c.well_formed)
 
-pub round-overflow_mul-j : goal.round-overflow_mul-j
-round-overflow_mul-j t c = omega (arith, binder_here c.requires.binds, c.well_formed)
+pub round-overflow_mul-x-2 : goal.round-overflow_mul-x-2
+round-overflow_mul-x-2 t c = omega (arith, binder_here c.requires.binds, c.well_formed)
 
 pub round-advance-requires : goal.round-advance-requires
 round-advance-requires t c =
@@ -145,17 +132,20 @@ round-returns t c =
 pub rounds-loop-r-init : goal.rounds-loop-r-init
 rounds-loop-r-init t c = turning_start c.args.most c.requires
 
-pub rounds-round-change-requires : goal.rounds-round-change-requires
-rounds-round-change-requires t c =
+pub rounds-round-changed-requires : goal.rounds-round-changed-requires
+rounds-round-changed-requires t c =
     (omega (arith, c.decreases), turning_roundable c.args.most c.requires c.loop-r.invariant)
 
-pub rounds-returns-then-change-eq0 : goal.rounds-returns-then-change-eq0
-rounds-returns-then-change-eq0 t c =
-    iterated_still c.args.most c.requires c.loop-r.invariant c.round-change.ensures c.if-change-eq0.true
+pub rounds-returns-then-not-changed : goal.rounds-returns-then-not-changed
+rounds-returns-then-not-changed t c =
+    iterated_still c.args.most c.requires c.loop-r.invariant c.round-changed.ensures c.if-not-changed.true
 
 pub rounds-loop-r-preserved : goal.rounds-loop-r-preserved
 rounds-loop-r-preserved t c =
-    turning_next c.args.most c.requires c.loop-r.invariant c.round-change.ensures (omega (arith, c.loop-r-test.true)) c.if-change-eq0.false
+    turning_next c.args.most c.requires c.loop-r.invariant c.round-changed.ensures (omega (arith, c.loop-r-test.true)) c.if-not-changed.false
 
 pub rounds-returns : goal.rounds-returns
-rounds-returns t c = iterated_most c.args.most c.requires c.loop-r.invariant (omega (arith, c.loop-r-test.false))
+rounds-returns t c =
+    let all : c.loop-r.r ≡ c.args.most = omega (arith, c.loop-r.invariant.few) in
+    subst (Iterated (decoded c.args.plan.now) c.args.work.now c.loop-r.work c.args.x c.args.act c.args.most) all
+    (iterated_most c.args.most c.requires c.loop-r.invariant (omega (arith, c.loop-r-test.false)))

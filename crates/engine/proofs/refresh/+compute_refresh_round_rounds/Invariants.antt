@@ -1,6 +1,6 @@
 -- `engine::refresh::refresh`, `compute`, `rounds` and `round` end, by recursion over nodes: 4k falls to 4j + 3 for j below k, and that to 4j + 2, 4j + 1
 -- and 4j. The rounds of a binder are at most so many.
-use Prim.Native.Nat.{◌+◌, ◌-◌, ◌*◌}
+use Prim.Native.Nat.{◌+◌, ◌*◌}
 use Rattle.case_plan.specs.Plans.{decoded}
 use Rattle.engine.proofs.Iterating.{Turning}
 use Rattle.engine.proofs.refresh.+compute_refresh_round_rounds.Given as goal
@@ -19,6 +19,3 @@ decreases-round l = 4 * l.x.node + 1
 
 abbrev pub invariant-rounds-loop-r : goal.invariant-rounds-loop-r
 invariant-rounds-loop-r l = Turning (decoded l.plan) l.initial.work l.work l.x l.act l.most l.r l.moved
-
-abbrev pub decreases-rounds-loop-r : goal.decreases-rounds-loop-r
-decreases-rounds-loop-r l = l.most - l.r

@@ -1,7 +1,8 @@
 -- `regular_engine::recursion::refresh`, `compute` and `iterate` end, by recursion over nodes: 3k falls to 3j + 2 for j below k, and that to
 -- 3j + 1 and 3j. The rounds of a binder are what `TurningBy` says.
-use Prim.Native.Nat.{◌-◌, ◌+◌, ◌*◌}
+use Prim.Native.Nat.{◌+◌, ◌*◌}
 use Rattle.case_plan.specs.Plans.{decoded}
+use Rattle.regular_engine.specs.Computing.{moved}
 use Rattle.regular_engine.proofs.Rounds.{TurningBy}
 use Rattle.regular_engine.proofs.recursion.+compute_iterate_refresh.Given as goal
 
@@ -14,9 +15,6 @@ decreases-iterate l = 3 * l.j + 1
 abbrev pub decreases-refresh : goal.decreases-refresh
 decreases-refresh l = 3 * l.k
 
-abbrev pub invariant-iterate-loop-r : goal.invariant-iterate-loop-r
-invariant-iterate-loop-r l =
-    TurningBy l.file (decoded l.plan) l.initial.work l.work l.j l.act l.least l.r l.moved
-
-abbrev pub decreases-iterate-loop-r : goal.decreases-iterate-loop-r
-decreases-iterate-loop-r l = l.n - l.r
+abbrev pub invariant-iterate-loop : goal.invariant-iterate-loop
+invariant-iterate-loop l =
+    TurningBy l.rule.drive.file.now (decoded l.rule.plan.now) l.initial.work l.work l.j l.act l.least l.counter (moved l.since)

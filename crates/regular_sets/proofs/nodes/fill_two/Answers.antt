@@ -7,20 +7,20 @@ use Rattle.regular_sets.proofs.Made.{here, two_low, or_done, and_done, chop_done
 use Rattle.regular_sets.proofs.nodes.fill_two.Goals as goal
 
 pub node-x-requires : goal.node-x-requires
-node-x-requires c = let F = c.requires.0 in omega (arith, F.there, F.drawn.rule.most)
+node-x-requires c = let F = c.requires.0 in omega (arith, F.there, F.rule.most)
 
 pub overflow_mul-a : goal.overflow_mul-a
 overflow_mul-a c =
     let F = c.requires.0 in
-    omega (arith, two_low F c.node-x.ensures c.args.operator c.requires.1, F.there, F.drawn.rule.most)
+    omega (arith, two_low F c.node-x.ensures c.args.operator c.requires.1, F.there, F.rule.most)
 
 pub overflow_mul-b : goal.overflow_mul-b
 overflow_mul-b c =
     let F = c.requires.0 in
-    omega (arith, two_low F c.node-x.ensures c.args.operator c.requires.1, F.there, F.drawn.rule.most)
+    omega (arith, two_low F c.node-x.ensures c.args.operator c.requires.1, F.there, F.rule.most)
 
 pub overflow_mul-c : goal.overflow_mul-c
-overflow_mul-c c = let F = c.requires.0 in omega (arith, F.there, F.drawn.rule.most)
+overflow_mul-c c = let F = c.requires.0 in omega (arith, F.there, F.rule.most)
 
 pub union-requires : goal.union-requires
 union-requires c =
@@ -35,18 +35,18 @@ intersection-requires c =
 pub node-requires : goal.node-requires
 node-requires c =
     let F = c.requires.0 in
-    omega (arith, two_low F c.node-x.ensures c.args.operator c.requires.1, F.there, F.drawn.rule.most)
+    omega (arith, two_low F c.node-x.ensures c.args.operator c.requires.1, F.there, F.rule.most)
 
 pub modality_at-left-requires : goal.modality_at-left-requires
 modality_at-left-requires c =
     let F = c.requires.0 in
     let a = c.node-x.result.1 in
-    (a, subst (λ (t : Triple). node_holds a t ≡ true) (sym c.node.ensures) (F.drawn.rule.kinds a (omega (arith, two_low F c.node-x.ensures c.args.operator c.requires.1, F.there))))
+    (a, subst (λ (t : Triple). node_holds a t ≡ true) (sym c.node.ensures) (F.rule.kinds a (omega (arith, two_low F c.node-x.ensures c.args.operator c.requires.1, F.there))))
 
 pub modal_set-requires : goal.modal_set-requires
 modal_set-requires c =
     let F = c.requires.0 in
-    (F.drawn.viewed, c.modality_at-left.ensures.0, F.drawn.states, omega (arith, two_low F c.node-x.ensures c.args.operator c.requires.1, here F), here F)
+    (omega (arith, two_low F c.node-x.ensures c.args.operator c.requires.1, here F), here F)
 
 pub returns-in-Or : goal.returns-in-Or
 returns-in-Or c =
@@ -59,4 +59,4 @@ returns-in-And c =
 pub returns-in-Chop : goal.returns-in-Chop
 returns-in-Chop c =
     chop_done c.requires.0 c.node-x.ensures c.args.operator c.requires.1 c.in-Chop.is
-    c.node.ensures c.modality_at-left.ensures.1 c.modal_set.ensures
+    c.node.ensures c.modality_at-left.ensures c.modal_set.ensures

@@ -13,21 +13,15 @@ use Rattle.regular_sets.proofs.FewSteps.{steps_few}
 use Rattle.regular_sets.proofs.places.step_index.Invariants.{group_from}
 use Rattle.regular_sets.proofs.places.step_index.Goals as goal
 
-pub overflow_mul-count : goal.overflow_mul-count
-overflow_mul-count c = omega (arith, c.requires.0.few, c.state_count.ensures.is)
-
-pub overflow_add-count : goal.overflow_add-count
-overflow_add-count c = omega (arith, c.requires.0.few, c.state_count.ensures.is)
-
 pub loop-k-init : goal.loop-k-init
-loop-k-init c = (omega arith, omega arith, front_none _ _, unfold group_at in sym (first_zero _ _))
+loop-k-init c = (omega arith, front_none _ _, unfold group_at in sym (first_zero _ _))
 
 pub next-at-requires : goal.next-at-requires
-next-at-requires c = c.loop-k.invariant.1
+next-at-requires c = c.loop-k.invariant.0
 
 -- what the search found is entry k
 found : (c : goal.After-next-at) → c.next-at.result ≡ group_at (read c.args.file.now).steps c.loop-k.k
-found c = c.next-at.ensures ∙ c.loop-k.invariant.3
+found c = c.next-at.ensures ∙ c.loop-k.invariant.2
 
 within : (c : goal.After-next-at) → c.next-at.result ≤ length (read c.args.file.now).steps
 within c = omega (arith, found c, group_within c.requires.0 c.loop-k.k)
@@ -41,16 +35,15 @@ loop-k-preserved c =
     let k = c.loop-k.k in
     let l = (read c.args.file.now).steps in
     let next = ap (group_from l (group_at l k)) (add-one k) ∙ sym (group_after c.requires.0 k) ∙ ap (group_at l) (sym (add-one k)) in (
-      omega (arith, c.loop-k-test.true),
       within c,
-      front_more c.loop-k.invariant.2 (omega (arith, c.requires.0.few, c.state_count.ensures.is, c.loop-k-test.true))
+      front_more c.loop-k.invariant.1 (omega (arith, c.requires.0.few, c.state_count.ensures.is, c.loop-k-test.true))
           (found c),
       ap (λ at. group_from l at (k + 1)) (found c) ∙ next,
     )
 
 pub returns : goal.returns
 returns c =
-    let all = c.loop-k.invariant.2 in
+    let all = c.loop-k.invariant.1 in
     record {
       table = c.requires.0;
       inside = c.requires.1;

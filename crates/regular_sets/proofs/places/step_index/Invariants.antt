@@ -18,7 +18,4 @@ group_from l from k = first (λ i. leb k (key l i)) from (length l - from)
 abbrev pub invariant-loop-k : goal.invariant-loop-k
 invariant-loop-k l =
     let steps : List Triple = (read l.file).steps in
-    (l.k ≤ l.count) × (l.at ≤ length steps) × Filled l.initial.index l.index 0 l.k (group_at steps) × (group_from steps l.at l.k ≡ group_at steps l.k)
-
-abbrev pub decreases-loop-k : goal.decreases-loop-k
-decreases-loop-k l = l.count - l.k
+    (l.at ≤ length steps) × Filled l.initial.index l.index 0 l.k (group_at steps) × (group_from steps l.at l.k ≡ group_at steps l.k)

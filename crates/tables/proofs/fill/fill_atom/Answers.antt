@@ -13,14 +13,10 @@ pub overflow_cast-full : goal.overflow_cast-full
 overflow_cast-full c = omega (arith, size_some c.requires.0)
 
 pub prop-requires : goal.prop-requires
-prop-requires c =
-    let low = operand_under c.args.a c.in-Proposition.is c.requires.1 refl in
-    (low, omega (arith, c.requires.0.props c.args.a low, size_some c.requires.0))
+prop-requires c = operand_under c.args.a c.in-Proposition.is c.requires.1 refl
 
 pub prop-requires-in-Complement : goal.prop-requires-in-Complement
-prop-requires-in-Complement c =
-    let low = operand_under c.args.a c.in-Complement.is c.requires.1 refl in
-    (low, omega (arith, c.requires.0.props c.args.a low, size_some c.requires.0))
+prop-requires-in-Complement c = operand_under c.args.a c.in-Complement.is c.requires.1 refl
 
 pub overflow_sub-full-in-Complement : goal.overflow_sub-full-in-Complement
 overflow_sub-full-in-Complement c =

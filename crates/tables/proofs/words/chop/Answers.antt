@@ -1,44 +1,17 @@
--- `tables::words::chop` meets its contract: the loop fills one word a turn from two lower tables; an entry of the one is a set, so it is a place of the other.
-use Prim.Native.Nat.{ℕ, ◌+◌, ◌≤◌, ◌<◌}
-use mathlib.Core.List.{List}
+-- `tables::words::chop` meets its contract: what is filled from c on is made of words below; an entry of the table at b is a set, so it is a place of the other.
+use Rattle.std.proofs.Common.{rules, drop, get_or, ◌≡◌, ◌+◌}
 use mathlib.Core.Path.{ap, ◌∙◌}
 use native.Mathlib.Omega.{arith}
-use lib.ListN.{get_or}
-use Rattle.flc.specs.Functions.{Fun}
-use Rattle.case_model.specs.Areas.{from}
-use Rattle.case_model.proofs.Filling.{Filling, filling_none, before, turn, filled}
+use Rattle.areas.proofs.Parts.{part_under, filled_part}
 use Rattle.tables.proofs.words.chop.Goals as goal
 
-pub loop-i-init : goal.loop-i-init
-loop-i-init c = filling_none _ _ _ _
-
--- an entry of a table of sets below the one that is filled
-entry : {w v : List ℕ} {c count i : ℕ} {f : Fun} → Filling w v c count i f → (b : ℕ) → b + count ≤ c
-    → ((x : ℕ) → x < count → from w b x < count) → i < count → get_or v (b + i) 0 < count
-entry {i = i} s b l h k = rw (before s (b + i) (omega arith)) (h i k)
-
-pub overflow_cast-y : goal.overflow_cast-y
-overflow_cast-y c =
-    omega (arith, entry c.loop-i.invariant c.args.b (omega arith) c.requires.3 (omega arith))
-
-pub overflow_add-work : goal.overflow_add-work
-overflow_add-work c =
-    omega (arith, entry c.loop-i.invariant c.args.b (omega arith) c.requires.3 (omega arith))
-
-pub offset_bounds-work-a : goal.offset_bounds-work-a
-offset_bounds-work-a c =
-    omega (arith, entry c.loop-i.invariant c.args.b (omega arith) c.requires.3 (omega arith))
-
-pub bounds-work-a : goal.bounds-work-a
-bounds-work-a c =
-    omega (arith, entry c.loop-i.invariant c.args.b (omega arith) c.requires.3 (omega arith))
-
-pub loop-i-preserved : goal.loop-i-preserved
-loop-i-preserved c =
-    let s = c.loop-i.invariant in
-    let y = entry s c.args.b (omega arith) c.requires.3 (omega arith) in
-    let e = before s (c.args.b + c.loop-i.i) (omega arith) in
-    turn s _ (omega arith) (omega arith) (before s _ (omega arith) ∙ ap (from c.args.work.now c.args.a) e)
-
 pub returns : goal.returns
-returns c = filled c.loop-i.invariant (omega arith)
+returns c =
+    let s = c.split_at_mut-below.ensures in
+    let v = c.split_at_mut-below.result.0.now in
+    filled_part _ s.front (ap (drop c.args.count) s.back) (omega arith) (search rules) (λ x h.
+    let e = c.fill.ensures.gives x 0 (search rules) in
+    let q : get_or c.fill.new.target x 0 ≡ get_or v (c.args.a + get_or v (c.args.b + x) 0) 0 = search rules in
+    let y = part_under _ s.front (c.args.b + x) (omega arith) in
+    let l = c.requires.3 x h in
+    q ∙ ap (λ y. get_or v (c.args.a + y) 0) y ∙ part_under _ s.front _ (omega arith))

@@ -1,16 +1,12 @@
--- `tables::words::identity` meets its contract: the loop fills one word a turn; a number below 65536 is its own word.
-use mathlib.Core.Path.{refl}
+-- `tables::words::identity` meets its contract: a number below 65536 is its own word.
+use Rattle.std.proofs.Common.{rules, drop, ◌≡◌, ◌+◌, ◌-◌}
+use mathlib.Core.Path.{refl, ap}
 use native.Mathlib.Omega.{arith}
-use Rattle.case_model.proofs.Filling.{filling_none, turn, filled}
+use Rattle.areas.proofs.Parts.{filled_part}
 use Rattle.tables.proofs.words.identity.Goals as goal
 
-pub loop-i-init : goal.loop-i-init
-loop-i-init c = filling_none _ _ _ _
-
-pub loop-i-preserved : goal.loop-i-preserved
-loop-i-preserved c =
-    let s = c.loop-i.invariant in
-    turn s _ (omega arith) (omega arith) refl
-
 pub returns : goal.returns
-returns c = filled c.loop-i.invariant (omega arith)
+returns c =
+    let k : c.args.c + c.args.count - c.args.c ≡ c.args.count = omega arith in
+    filled_part c.fill.new.target refl (ap (λ k. drop k (drop c.args.c c.args.work.now)) k) (omega arith) (search rules) (λ x h.
+    let e = c.fill.ensures.gives x 0 (search rules) in search rules)

@@ -1,17 +1,15 @@
--- `tables::words::intersection` meets its contract: the loop fills one word a turn from two lower tables, which it does not touch.
-use mathlib.Core.Path.{ap₂}
+-- `tables::words::intersection` meets its contract: what is filled from c on is made of words below.
+use Rattle.std.proofs.Common.{rules, drop, get_or, bit_and, ◌≡◌, ◌+◌}
+use mathlib.Core.Path.{ap, ap₂, ◌∙◌}
 use native.Mathlib.Omega.{arith}
-use lib.Bits.{bit_and}
-use Rattle.case_model.proofs.Filling.{filling_none, before, turn, filled}
+use Rattle.areas.proofs.Parts.{part_under, filled_part}
 use Rattle.tables.proofs.words.intersection.Goals as goal
 
-pub loop-i-init : goal.loop-i-init
-loop-i-init c = filling_none _ _ _ _
-
-pub loop-i-preserved : goal.loop-i-preserved
-loop-i-preserved c =
-    let s = c.loop-i.invariant in
-    turn s _ (omega arith) (omega arith) (ap₂ bit_and (before s _ (omega arith)) (before s _ (omega arith)))
-
 pub returns : goal.returns
-returns c = filled c.loop-i.invariant (omega arith)
+returns c =
+    let s = c.split_at_mut-below.ensures in
+    let v = c.split_at_mut-below.result.0.now in
+    filled_part _ s.front (ap (drop c.args.count) s.back) (omega arith) (search rules) (λ x h.
+    let e = c.fill.ensures.gives x 0 (search rules) in
+    let q : get_or c.fill.new.target x 0 ≡ bit_and (get_or v (c.args.a + x) 0) (get_or v (c.args.b + x) 0) = search rules in
+    q ∙ ap₂ bit_and (part_under _ s.front (c.args.a + x) (omega arith)) (part_under _ s.front (c.args.b + x) (omega arith)))

@@ -1,17 +1,15 @@
--- `tables::words::narrow` meets its contract: the loop fills the words before the table, which it does not touch.
-use mathlib.Core.Path.{ap}
+-- `tables::words::narrow` meets its contract: what is filled from c on is made of words above.
+use Rattle.std.proofs.Common.{rules, drop, get_or, bit_and, ◌≡◌}
+use mathlib.Core.Path.{ap, ◌∙◌}
 use native.Mathlib.Omega.{arith}
-use lib.Bits.{bit_and}
-use Rattle.case_model.proofs.Filling.{filling_none, after, turn, filled}
+use Rattle.areas.proofs.Parts.{part_over, filled_part}
 use Rattle.tables.proofs.words.narrow.Goals as goal
 
-pub loop-i-init : goal.loop-i-init
-loop-i-init c = filling_none _ _ _ _
-
-pub loop-i-preserved : goal.loop-i-preserved
-loop-i-preserved c =
-    let s = c.loop-i.invariant in
-    turn s _ (omega arith) (omega arith) (ap (λ z. bit_and z c.args.q) (after s _ (omega arith)))
-
 pub returns : goal.returns
-returns c = filled c.loop-i.invariant (omega arith)
+returns c =
+    let s = c.split_at_mut-run.ensures in
+    let above = c.split_at_mut-low.ensures.back ∙ ap (drop c.args.count) s.back in
+    filled_part _ s.front above (omega arith) (search rules) (λ x h.
+    let e = c.fill.ensures.gives x 0 (search rules) in
+    let q : get_or c.fill.new.target x 0 ≡ bit_and (get_or c.split_at_mut-low.result.1.now x 0) c.args.q = search rules in
+    q ∙ ap (λ y. bit_and y c.args.q) (part_over _ c.args.c c.args.count above x))

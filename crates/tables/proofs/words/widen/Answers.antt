@@ -1,17 +1,15 @@
--- `tables::words::widen` meets its contract: the loop fills the words after the table, which it does not touch.
-use mathlib.Core.Path.{ap}
+-- `tables::words::widen` meets its contract: what is filled from c + count on is made of words below.
+use Rattle.std.proofs.Common.{rules, drop, get_or, bit_or, ◌≡◌, ◌+◌}
+use mathlib.Core.Path.{ap, ◌∙◌}
 use native.Mathlib.Omega.{arith}
-use lib.Bits.{bit_or}
-use Rattle.case_model.proofs.Filling.{filling_none, before, turn, filled}
+use Rattle.areas.proofs.Parts.{part_under, filled_part}
 use Rattle.tables.proofs.words.widen.Goals as goal
 
-pub loop-i-init : goal.loop-i-init
-loop-i-init c = filling_none _ _ _ _
-
-pub loop-i-preserved : goal.loop-i-preserved
-loop-i-preserved c =
-    let s = c.loop-i.invariant in
-    turn s _ (omega arith) (omega arith) (ap (λ z. bit_or z c.args.p) (before s _ (omega arith)))
-
 pub returns : goal.returns
-returns c = filled c.loop-i.invariant (omega arith)
+returns c =
+    let s = c.split_at_mut-below.ensures in
+    let v = c.split_at_mut-below.result.0.now in
+    filled_part _ s.front (ap (drop c.args.count) s.back) (omega arith) (search rules) (λ x h.
+    let e = c.fill.ensures.gives x 0 (search rules) in
+    let q : get_or c.fill.new.target x 0 ≡ bit_or (get_or v (c.args.c + x) 0) c.args.p = search rules in
+    q ∙ ap (λ y. bit_or y c.args.p) (part_under _ s.front (c.args.c + x) (omega arith)))

@@ -1,0 +1,29 @@
+// The set of the states that pass a test, byte by byte.
+ghost use Rattle.std.specs.Prelude.{ℕ, ◌≡◌, ◌+◌, ◌≤◌, ◌<◌, length};
+ghost use Rattle.regular_model.specs.SetBytes.{byte_of};
+ghost use Rattle.regular_model.specs.HeldSets.{Stored};
+ghost use Rattle.regular_sets.specs.Views.{Tells};
+
+// Byte i: those of the states 8i to 8i + 7, the lowest in its lowest bit.
+fn byte_by<F: Fn(usize) -> bool>(test: &F, i: usize) -> u8
+    requires callable { F.IsAlwaysCallable test.now }
+    requires inside { i < 32 }
+    ensures { (x : ℕ) → Tells (F.post test.now) x → result ≡ byte_of x i }
+{
+    let mut byte: u8 = 0;
+    for t in (0..8).rev() {
+        byte = 2 * byte + u8::from(test(8 * i + t));
+    }
+    byte
+}
+
+// The whole set, to c.
+pub(crate) fn store<F: Fn(usize) -> bool>(work: &mut [u8], c: usize, test: F)
+    requires callable { F.IsAlwaysCallable test }
+    requires room { c + 32 ≤ length work.old }
+    ensures { (x : ℕ) → Tells (F.post test) x → Stored work.old work.new c x }
+{
+    for i in 0..32 {
+        work[c + i] = byte_by(&test, i);
+    }
+}
