@@ -130,7 +130,9 @@ module _ {p : Plan} {w₀ : List ℕ} {x : Binder} {act : ℕ} {way : Direction}
 
       -- and one that does
       moves : changed ≡ true → Agree p.states (after p w₀ x act r) (after p w₀ x act (suc r)) → ⊥
-      moves n h = let e : changed ≡ false = D.stands (λ q k. U.now q k ∙ h q k ∙ sym (now q k)) in cc
+      moves c h =
+          let z : true ≡ false = sym c ∙ D.stands (λ q k. U.now q k ∙ h q k ∙ sym (now q k)) in
+          absurd (let o : ◌≡◌ {A = ℕ} 0 1 = cc in omega arith)
 
       rose : Below I.binds.least p.states (block p w x.node) (block p z x.node)
       rose =
