@@ -149,9 +149,9 @@ module _ {f : List ℕ} {p : Plan} where
         binder_room = omega (arith, block_room C.area, R.long, T.long, S.stored.long)
 
         -- then the binder's set is the body's, in the area a
-        module _ {a : List ℕ} {change : ℕ} (A : Advanced z a (64 * x.2) (64 * j) change) where
-          body : Advanced z a (64 * b) (64 * j) change
-          body = subst (λ (t : Triple). Advanced z a (64 * t.2) (64 * j) change) S.node A
+        module _ {a : List ℕ} {changed : Bool} (A : Advanced z a (64 * x.2) (64 * j) changed) where
+          body : Advanced z a (64 * b) (64 * j) changed
+          body = subst (λ (t : Triple). Advanced z a (64 * t.2) (64 * j) changed) S.node A
 
           moved_to : Placed (blocks z) (blocks a) j (blocks z b)
           moved_to = stored_placed j _ (held_lt z (64 * b)) body.stored
@@ -168,7 +168,7 @@ module _ {f : List ℕ} {p : Plan} where
                     (loops.turning_again W restart C.within least v b binds T.is lower.is moved_to (way least) flag);
               }
 
-          pub iterated_early : change ≡ 0 → ComputedBy f p w a j act grown
+          pub iterated_early : changed ≡ false → ComputedBy f p w a j act grown
           unfolding table
           iterated_early q = record {
             long = turned_long ∙ S.stored.long;

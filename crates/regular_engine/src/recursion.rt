@@ -58,7 +58,7 @@ fn iterate(work: &mut [u8], rule: &Rule, j: usize, act: u32, grown: Option<Direc
     let mut since: Option<Direction> = None;
     for _ in 0..n {
         refresh(work, rule, j, act, wide, since);
-        if advance(work, 64 * x.2, 64 * j) == 0 {
+        if !advance(work, 64 * x.2, 64 * j) {
             return;
         }
         since = Some(Direction::of(least));

@@ -2,7 +2,6 @@
 ghost use Rattle.std.specs.Prelude.{true, ◌⊎◌, ◌≡◌, ◌+◌, ◌*◌, ◌≤◌, ◌<◌, length};
 ghost use Rattle.std.specs.Int.Bits.{bit_or, bit_and};
 ghost use Rattle.flc.specs.Sets.{has, set_of};
-ghost use Rattle.flc.specs.Order.{signed};
 ghost use Rattle.regular_model.specs.SetBytes.{byte_of};
 ghost use Rattle.regular_model.specs.HeldSets.{held_at, Stored};
 ghost use Rattle.regular_sets.specs.Views.{Advanced, Taken};
@@ -86,13 +85,6 @@ pub(crate) fn take(work: &[u8], a: usize) -> [u8; 32]
     let mut x = [0u8; 32];
     x.copy_from_slice(&work[a..a + 32]);
     x
-}
-
-// The test itself, or with the flag false its complement.
-pub(crate) fn agrees(test: bool, flag: bool) -> bool
-    ensures { result ≡ signed flag test }
-{
-    if flag { test } else { !test }
 }
 
 // Has it state t?

@@ -73,10 +73,10 @@ iterate-advance-requires t c =
     let B = begun _ (stated c.args.rule.now) c.requires c.node-x.ensures c.variable.ensures c.begin.ensures in
     (omega (arith, (operands_low c.requires c.node-x.ensures).1), binder_room B c.loop.invariant c.refresh.ensures)
 
-pub iterate-returns-then-advance-eq0 : goal.iterate-returns-then-advance-eq0
-iterate-returns-then-advance-eq0 t c =
+pub iterate-returns-then-not-advance : goal.iterate-returns-then-not-advance
+iterate-returns-then-not-advance t c =
     let B = begun _ (stated c.args.rule.now) c.requires c.node-x.ensures c.variable.ensures c.begin.ensures in
-    iterated_early B c.loop.invariant c.refresh.ensures c.advance.ensures c.if-advance-eq0.true
+    iterated_early B c.loop.invariant c.refresh.ensures c.advance.ensures c.if-not-advance.true
 
 pub iterate-loop-preserved : goal.iterate-loop-preserved
 iterate-loop-preserved t c =
