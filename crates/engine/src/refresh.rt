@@ -1,4 +1,5 @@
 // The tables of all nodes, by recursion over nodes with the number falling; those of binders by approximants.
+ghost use Rattle.std.specs.Prelude.{◌+◌};
 ghost use Rattle.case_plan.specs.Plans.{decoded};
 ghost use Rattle.engine.specs.Computing.{Refreshable, Refreshed, Computable, Computed, Roundable, Rounded, Iterable, Iterated};
 
@@ -8,10 +9,11 @@ use case_plan::{Direction, Plan, variable};
 use case_reader::{Kind, kind_of};
 use tables::advance;
 
-// A binder: its node, its variable and its body.
+// A binder: its node, whether it is of the least fixed point, its variable and its body.
 #[derive(Clone, Copy)]
 pub struct Binder {
     pub node: usize,
+    pub least: bool,
     pub variable: usize,
     pub body: usize,
 }
@@ -62,29 +64,24 @@ pub(crate) fn compute(
     begin(work, plan.size, j * plan.size, least, grown);
     let binder = Binder {
         node: j,
+        least,
         variable: x.1,
         body: x.2,
     };
-    // The round that changes nothing comes after as many as there can be.
-    let most = plan.limit + 1;
-    rounds(work, plan, binder, act, Direction::of(least), most)
+    rounds(work, plan, binder, act)
 }
 
-// Rounds of a binder from the table that it has, which moves in the direction `way`, until one changes nothing, but at most so many.
+// Rounds of a binder from the table that it has, which moves in the binder's direction, until one changes nothing.
 // The answer is how many changed something. In the first round the binders within it start anew, for nothing is known of their tables; then
 // only this binder's table moves, so that those which move in the same direction go on from theirs.
 #[cycle(compute_refresh_round_rounds)]
-pub(crate) fn rounds(
-    work: &mut [u16],
-    plan: &Plan,
-    x: Binder,
-    act: u32,
-    way: Direction,
-    most: usize,
-) -> usize
-    requires { Iterable (decoded plan.now) work.old x act way }
-    ensures { Iterated (decoded plan.now) work.old work.new x act most result }
+fn rounds(work: &mut [u16], plan: &Plan, x: Binder, act: u32) -> usize
+    requires { Iterable (decoded plan.now) work.old x act }
+    ensures { Iterated (decoded plan.now) work.old work.new x act ((decoded plan.now).limit + 1) result }
 {
+    let way = Direction::of(x.least);
+    // The round that changes nothing comes after as many as there can be.
+    let most = plan.limit + 1;
     let mut moved = None;
     for r in 0..most {
         let changed = round(work, plan, x, act, moved);

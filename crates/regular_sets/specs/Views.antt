@@ -41,10 +41,10 @@ abbrev pub Tells : (ℕ → Bool → Type 0) → ℕ → Type 0
 Tells test x = (s : ℕ) (b : Bool) → s < 256 → test s b → b ≡ has x s
 
 -- ---- sets in the area
--- v is w with the set at b also at c; the change is 0 only if they were equal
-pub record Advanced (w v : List ℕ) (b c change : ℕ) : Type 0 where
+-- v is w with the set at b also at c; nothing has changed only if they were equal
+pub record Advanced (w v : List ℕ) (b c : ℕ) (changed : Bool) : Type 0 where
   pub stored : Stored w v c (held_at w b)
-  pub stood : change ≡ 0 → held_at w b ≡ held_at w c
+  pub stood : changed ≡ false → held_at w b ≡ held_at w c
 
 -- x is the set of w at a
 pub record Taken (w : List ℕ) (a : ℕ) (x : List ℕ) : Type 0 where

@@ -6,7 +6,6 @@ ghost use Rattle.case_model.specs.Case.{read, table};
 ghost use Rattle.regular_model.specs.HeldSets.{Stored};
 ghost use Rattle.regular_sets.specs.Views.{label_atom};
 
-use crate::bytes::agrees;
 use crate::drive::Drive;
 use crate::members::store;
 use case_reader::{has, label};
@@ -17,7 +16,7 @@ impl Drive<'_> {
         requires { p < 8 }
         ensures { result ≡ has (mean_atom (table (read self.now.file.now)) (label_atom with p) 0) s }
     {
-        s < self.states && agrees(has(label(self.file, s) as u64, p), with)
+        s < self.states && has(label(self.file, s) as u64, p) == with
     }
 }
 

@@ -12,7 +12,7 @@ ghost use Rattle.regular_model.specs.Blocks.{modality_at};
 ghost use Rattle.regular_model.specs.HeldSets.{held_at, Stored};
 ghost use Rattle.regular_model.specs.StepGroups.{group_at, hits};
 
-use crate::bytes::{agrees, member, take};
+use crate::bytes::{member, take};
 use crate::drive::Drive;
 use crate::members::store;
 use case_reader::{Atom, Kind, Triple, has, kind_of};
@@ -91,7 +91,7 @@ impl Drive<'_> {
         requires { to ≤ length (read self.now.file.now).steps }
         ensures { result ≡ hits (read self.now.file.now).steps (held_at x.now 0) into from to }
     {
-        (from..to).any(|i| agrees(member(x, self.target(i)), into))
+        (from..to).any(|i| member(x, self.target(i)) == into)
     }
 
     // The same for the steps of state s by action a, if the group has it.
@@ -113,7 +113,7 @@ impl Drive<'_> {
     pub(crate) fn holds(&self, x: &[u8; 32], m: Modality, s: usize) -> bool
         ensures { result ≡ has (mean_atom (table (read self.now.file.now)) (logic.modal m.some m.group) (held_at x.now 0)) s }
     {
-        s < self.states && agrees((m.first..m.last).any(|a| self.decides(x, m, s, a)), m.some)
+        s < self.states && (m.first..m.last).any(|a| self.decides(x, m, s, a)) == m.some
     }
 }
 

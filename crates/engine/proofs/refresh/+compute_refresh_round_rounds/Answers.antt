@@ -6,16 +6,17 @@ use mathlib.Core.Path.{◌≡◌, sym, ap, ◌∙◌, subst}
 use native.Mathlib.Omega.{arith}
 use lib.Bits.{bit_or}
 use lib.ListN.{length}
+use Rattle.std.specs.Prelude.{Some}
 use Rattle.case_plan.specs.Plans.{Plan, decoded}
 use Rattle.case_plan.proofs.KnownNodes.{known, other_kind}
 use Rattle.tables.proofs.Sizes.{size_some}
 use Rattle.engine.specs.declared.refresh.Binder.{Binder}
-use Rattle.engine.specs.Computing.{Ready, Refreshable, Refreshed, Iterable, Iterated}
+use Rattle.engine.specs.Computing.{Ready, Refreshable, Refreshed, Iterated}
 use Rattle.engine.proofs.Frames.{apart}
 use Rattle.engine.proofs.Refreshing.{refresh_lower, skip_out, skip_old, computable, one_more}
 use Rattle.engine.proofs.Refreshing.{fillable, computed_plain}
 use Rattle.engine.proofs.Turns.{binds_low, binder_here, body_under, round_refreshable, rounded}
-use Rattle.engine.proofs.Iterating.{turning_start, turning_roundable, turning_next, iterated_still, iterated_most}
+use Rattle.engine.proofs.Iterating.{Turning, turning_start, turning_roundable, turning_next, iterated_still, iterated_most}
 use Rattle.engine.proofs.Settling.{limit_small, iterable, computed_binder}
 use Rattle.engine.proofs.refresh.+compute_refresh_round_rounds.Goals as goal
 use Rattle.engine.proofs.refresh.+compute_refresh_round_rounds.Goals.{refresh-else-scope-act-via-then-scope-act+else-scope-old, refresh-else-scope-act-via-else-scope-act}
@@ -45,26 +46,19 @@ compute-overflow_mul-j t c = omega (arith, room c.requires.ready, c.well_formed)
 pub compute-begin-requires : goal.compute-begin-requires
 compute-begin-requires t c = room c.requires.ready
 
-pub compute-overflow_add-most : goal.compute-overflow_add-most
-compute-overflow_add-most t c = omega (arith, limit_small c.requires.ready.sound)
-
 pub compute-rounds-requires : goal.compute-rounds-requires
 compute-rounds-requires t c =
-    let p = decoded c.args.plan.now in
     let x = c.node-x.result in
-    let B : Binder = record { node = c.args.j; variable = x.1; body = x.2 } in (
-      omega (arith, c.decreases),
-      subst (Iterable p c.begin.new.work B c.args.act) (sym c.of.ensures)
-          (iterable B c.in-Binder.least c.requires (known p c.args.j c.node-x.ensures c.kind_of.ensures c.in-Binder.is) c.begin.ensures),
-    )
+    let B : Binder = record { node = c.args.j; least = c.in-Binder.least; variable = x.1; body = x.2 } in
+    let is = known (decoded c.args.plan.now) c.args.j c.node-x.ensures c.kind_of.ensures c.in-Binder.is in
+    (omega (arith, c.decreases), iterable B c.requires is c.begin.ensures)
 
 pub compute-returns : goal.compute-returns
 compute-returns t c =
-    let p = decoded c.args.plan.now in
     let x = c.node-x.result in
-    let B : Binder = record { node = c.args.j; variable = x.1; body = x.2 } in
-    computed_binder B c.in-Binder.least c.requires (known p c.args.j c.node-x.ensures c.kind_of.ensures c.in-Binder.is)
-    c.begin.ensures (omega (arith, c.requires.ready.sound.limit)) c.rounds.ensures
+    let B : Binder = record { node = c.args.j; least = c.in-Binder.least; variable = x.1; body = x.2 } in
+    let is = known (decoded c.args.plan.now) c.args.j c.node-x.ensures c.kind_of.ensures c.in-Binder.is in
+    computed_binder B c.requires is c.begin.ensures (omega (arith, c.requires.ready.sound.limit)) c.rounds.ensures
 
 -- ---- refresh
 pub refresh-refresh-requires : goal.refresh-refresh-requires
@@ -129,23 +123,30 @@ round-returns t c =
     c.advance.ensures
 
 -- ---- rounds
+pub rounds-overflow_add-most : goal.rounds-overflow_add-most
+rounds-overflow_add-most t c = omega (arith, limit_small c.requires.binds.ready.sound)
+
 pub rounds-loop-r-init : goal.rounds-loop-r-init
-rounds-loop-r-init t c = turning_start c.args.most c.requires
+rounds-loop-r-init t c = turning_start (c.args.plan.now.limit + 1) c.requires
 
 pub rounds-round-changed-requires : goal.rounds-round-changed-requires
 rounds-round-changed-requires t c =
-    (omega (arith, c.decreases), turning_roundable c.args.most c.requires c.loop-r.invariant)
+    (omega (arith, c.decreases), turning_roundable (c.args.plan.now.limit + 1) c.requires c.loop-r.invariant)
 
 pub rounds-returns-then-not-changed : goal.rounds-returns-then-not-changed
 rounds-returns-then-not-changed t c =
-    iterated_still c.args.most c.requires c.loop-r.invariant c.round-changed.ensures c.if-not-changed.true
+    iterated_still (c.args.plan.now.limit + 1) c.requires c.loop-r.invariant c.round-changed.ensures c.if-not-changed.true
 
 pub rounds-loop-r-preserved : goal.rounds-loop-r-preserved
 rounds-loop-r-preserved t c =
-    turning_next c.args.most c.requires c.loop-r.invariant c.round-changed.ensures (omega (arith, c.loop-r-test.true)) c.if-not-changed.false
+    let most = c.args.plan.now.limit + 1 in
+    let next = turning_next most c.requires c.loop-r.invariant c.round-changed.ensures (omega (arith, c.loop-r-test.true)) c.if-not-changed.false in
+    subst (λ d. Turning (decoded c.args.plan.now) c.args.work.now c.round-changed.new.work c.args.x c.args.act most (c.loop-r.r + 1) (Some d))
+    (sym c.of-way.ensures) next
 
 pub rounds-returns : goal.rounds-returns
 rounds-returns t c =
-    let all : c.loop-r.r ≡ c.args.most = omega (arith, c.loop-r.invariant.few) in
-    subst (Iterated (decoded c.args.plan.now) c.args.work.now c.loop-r.work c.args.x c.args.act c.args.most) all
-    (iterated_most c.args.most c.requires c.loop-r.invariant (omega (arith, c.loop-r-test.false)))
+    let most = c.args.plan.now.limit + 1 in
+    let all : c.loop-r.r ≡ most = omega (arith, c.loop-r.invariant.few) in
+    subst (Iterated (decoded c.args.plan.now) c.args.work.now c.loop-r.work c.args.x c.args.act most) all
+    (iterated_most most c.requires c.loop-r.invariant (omega (arith, c.loop-r-test.false)))

@@ -18,4 +18,4 @@ abbrev pub decreases-round : goal.decreases-round
 decreases-round l = 4 * l.x.node + 1
 
 abbrev pub invariant-rounds-loop-r : goal.invariant-rounds-loop-r
-invariant-rounds-loop-r l = Turning (decoded l.plan) l.initial.work l.work l.x l.act l.most l.r l.moved
+invariant-rounds-loop-r l = Turning (decoded l.plan) l.initial.work l.work l.x l.act (l.plan.limit + 1) l.r l.moved
