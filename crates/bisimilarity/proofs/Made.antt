@@ -9,7 +9,8 @@ use denote.Param.Members.{Mut}
 use Rattle.std.specs.Array.{IsFromFnResultFrom}
 use Rattle.std.specs.Fn.{Called}
 
-module _ {F : Type 0} {g : Mut F (ℕ × Unit {0}) ℕ} (P : ℕ → ℕ → Type 0) {f : F} (call : (x y : ℕ) (q : F) → Called g f (x, tt) y q → (q ≡ f) × P x y) (ys : List ℕ) where
+module _ {F : Type 0} {g : Mut F (ℕ × Unit {0}) ℕ} (P : ℕ → ℕ → Type 0) {f : F}
+    (call : (x y : ℕ) (q : F) → Called g f (x, tt) y q → (q ≡ f) × P x y) (ys : List ℕ) where
   pub made : (n i : ℕ) → IsFromFnResultFrom g f ys i n → (s : ℕ) → i ≤ s → s < i + n → P s (get_or ys s 0)
   made zero i h s l m = absurd (omega arith)
   made (suc n) i (q, y, at, told, rest) s l m = elim (ℕ_discrete s i) [

@@ -14,6 +14,9 @@ returns c =
     let a = c.args in
     let n = a.self.now.states in
     let L = table_of a.self.now in
+    let items = c.from_fn.ensures.items.each in
     record {
-      row = λ s h. made (λ x y. x < n → y ≡ set_of n (same_label L x)) (λ x y q k. search rules) _ 16 0 c.from_fn.ensures.items.each s (omega arith) (omega (arith, h, a.self.now.few)) h;
+      row = λ s h.
+          let few = c.args.self.now.few in
+          made (λ x y. x < n → y ≡ set_of n (same_label L x)) (λ x y q k. search rules) _ 16 0 items s (omega arith) (omega (arith, h, few)) h;
     }
