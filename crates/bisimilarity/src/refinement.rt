@@ -11,6 +11,7 @@ use crate::graph::Graph;
 use crate::masks::extended;
 use case_file::Case;
 use case_reader::has;
+use std::array;
 
 // Is each state of the set `from` related to one of the set `to`? Steps by an action that is not looked at need not be met.
 fn met_by(looked: bool, n: usize, rows: &[u16; 16], from: u16, to: u16) -> bool
@@ -58,11 +59,11 @@ impl Graph {
     fn refined(&self, rows: &[u16; 16]) -> [u16; 16]
         ensures { Rows self.now.states result (kept (table_of self.now) (related rows.now)) }
     {
-        let mut next = [0u16; 16];
-        for s in 0..self.states {
-            next[s] = self.left(rows, s);
-        }
-        next
+        array::from_fn(|s| if s < self.states {
+            self.left(rows, s)
+        } else {
+            0
+        })
     }
 
     // The states with the label of s.
@@ -81,11 +82,7 @@ impl Graph {
     fn start(&self) -> [u16; 16]
         ensures { Rows self.now.states result (same_label (table_of self.now)) }
     {
-        let mut rows = [0u16; 16];
-        for s in 0..self.states {
-            rows[s] = self.labelled(s);
-        }
-        rows
+        array::from_fn(|s| if s < self.states { self.labelled(s) } else { 0 })
     }
 
     // Every round but the last drops a pair, so the rounds end.
