@@ -18,10 +18,18 @@ use crate::modal::{modal_set, modality_at};
 use case_plan::Plan;
 use case_reader::{Atom, Kind, Operator, kind_of};
 
+// The rule of a case, as it was planned, and the drive that it is judged on.
+#[derive(Clone, Copy)]
+pub struct Rule<'a> {
+    pub drive: Drive<'a>,
+    pub plan: &'a Plan,
+    ghost same_states: { (decoded plan.now).states ≡ drive.states },
+}
+
 // An atom with its operand a; τ and the modalities have no set of their own.
-fn fill_atom(work: &mut [u8], drive: &Drive, atom: Atom, a: usize, c: usize)
+fn fill_atom(work: &mut [u8], drive: Drive, atom: Atom, a: usize, c: usize)
     requires { ((j : ℕ) → fits (operand_of atom) j a ≡ true) × (c + 32 ≤ length work.old) }
-    ensures { Stored work.old work.new c (mean_atom (table (read drive.now.file.now)) (constant_of (atom_with atom a)) 0) }
+    ensures { Stored work.old work.new c (mean_atom (table (read drive.entry.file.now)) (constant_of (atom_with atom a)) 0) }
 {
     match atom {
         Atom::Top => constant(work, drive.states, true, c),
@@ -29,14 +37,6 @@ fn fill_atom(work: &mut [u8], drive: &Drive, atom: Atom, a: usize, c: usize)
         Atom::Complement => label_set(work, drive, a, false, c),
         _ => constant(work, drive.states, false, c),
     }
-}
-
-// The rule of a case, as it was planned, and the drive that it is judged on.
-#[derive(Clone, Copy)]
-pub struct Rule<'a> {
-    pub drive: Drive<'a>,
-    pub plan: &'a Plan,
-    ghost same_states: { (decoded plan.now).states ≡ drive.states },
 }
 
 // Two nodes under an operator.
@@ -53,7 +53,7 @@ fn fill_two(work: &mut [u8], rule: &Rule, j: usize, operator: Operator)
         Operator::And => intersection(work, a, b, c),
         Operator::Chop => {
             let left = modality_at(rule.plan.node(x.1));
-            modal_set(work, &rule.drive, left, b, c)
+            modal_set(work, rule.drive, left, b, c)
         }
     }
 }
@@ -66,7 +66,7 @@ pub fn fill(work: &mut [u8], rule: &Rule, j: usize)
     let x = rule.plan.node(j);
     let c = 64 * j;
     match kind_of(x) {
-        Kind::Atom(atom) => fill_atom(work, &rule.drive, atom, x.1, c),
+        Kind::Atom(atom) => fill_atom(work, rule.drive, atom, x.1, c),
         Kind::Variable => copy(work, 64 * rule.plan.binder(x.1), c),
         Kind::Two(operator) => fill_two(work, rule, j, operator),
         Kind::Binder(_) => {}

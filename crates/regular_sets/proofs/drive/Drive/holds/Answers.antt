@@ -15,7 +15,7 @@ use Rattle.regular_sets.proofs.drive.Drive.holds.Goals as goal
 
 pub returns-then-s-self : goal.returns-then-s-self
 returns-then-s-self c =
-    let D = c.args.self.now in
+    let D = c.args.self in
     let m = c.args.m in
     let s = c.args.s in
     let l = (read D.file.now).steps in
@@ -28,7 +28,7 @@ returns-then-s-self c =
 pub returns-else-s-self : goal.returns-else-s-self
 unfolding table
 returns-else-s-self c =
-    let D = c.args.self.now in
+    let D = c.args.self in
     let m = c.args.m in
     le-ltb _ _ c.if-s-self.false
     ∙ sym (modal_beyond (table (read D.file.now)) m.some m.group (held_at c.args.x.now 0) c.args.s (omega (arith, c.if-s-self.false, D.counted)))
