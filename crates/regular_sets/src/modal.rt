@@ -1,6 +1,6 @@
 // The modalities: of each state, its steps by the actions of a group are looked at until one decides.
 ghost use Rattle.std.specs.Prelude.{true, false, ◌≡◌, ℕ, ◌+◌, ◌*◌, ◌≤◌, ◌<◌, length};
-ghost use Rattle.flc.specs.Sets.{both, has, singleton};
+ghost use Rattle.flc.specs.Sets.{has, singleton};
 ghost use Rattle.flc.specs.Formula as logic;
 ghost use Rattle.flc.specs.Formula.{actions, mean_atom};
 ghost use Rattle.case_model.specs.Kinds.{node_of, node_holds, fits};
@@ -10,7 +10,8 @@ ghost use Rattle.case_reader.specs.NodeKinds.{atom_with, operand_of};
 ghost use Rattle.regular_model.specs.Values.{modality_in};
 ghost use Rattle.regular_model.specs.Blocks.{modality_at};
 ghost use Rattle.regular_model.specs.HeldSets.{held_at, Stored};
-ghost use Rattle.regular_model.specs.StepGroups.{group_at, hits};
+ghost use Rattle.regular_model.specs.StepGroups.{hits};
+ghost use Rattle.regular_sets.specs.Views.{decided};
 
 use crate::bytes::{member, take};
 use crate::drive::Drive;
@@ -98,7 +99,7 @@ impl Drive<'_> {
     // The same for the steps of state s by action a, if the group has it.
     fn decides(self, x: &[u8; 32], m: Modality, s: usize, a: usize) -> bool
         requires { (s < length (read self.file.now).labels) × (a < 8) }
-        ensures { result ≡ both (has m.group a) (hits (read self.entry.file.now).steps (held_at x.now 0) m.some (group_at (read self.entry.file.now).steps (8 * s + a)) (group_at (read self.entry.file.now).steps (8 * s + a + 1))) }
+        ensures { result ≡ decided (read self.entry.file.now).steps (held_at x.now 0) m.some m.group s a }
     {
         let k = 8 * s + a;
         // No call of `has`, which tests the width too: in this loop over all states that took 1.06 of the time.

@@ -7,9 +7,8 @@ ghost use Rattle.case_reader.specs.NodeKinds.{atom_with, op_of, operand_of};
 ghost use Rattle.flc.specs.Nodes.{two};
 ghost use Rattle.case_plan.specs.Plans.{decoded, nodes_of};
 ghost use Rattle.regular_model.specs.Values.{constant_of};
-ghost use Rattle.regular_model.specs.Blocks.{made};
-ghost use Rattle.regular_model.specs.HeldSets.{blocks, Stored};
-ghost use Rattle.regular_sets.specs.Views.{frame, Fillable};
+ghost use Rattle.regular_model.specs.HeldSets.{Stored};
+ghost use Rattle.regular_sets.specs.Views.{Fillable, NodeMade};
 
 use crate::bytes::{constant, copy, intersection, union};
 use crate::drive::Drive;
@@ -41,8 +40,9 @@ fn fill_atom(work: &mut [u8], drive: Drive, atom: Atom, a: usize, c: usize)
 
 // Two nodes under an operator.
 fn fill_two(work: &mut [u8], rule: &Rule, j: usize, operator: Operator)
-    requires { Fillable rule.now.drive.file.now (decoded rule.now.plan.now) work.old j × (nodes_of (decoded rule.now.plan.now) j ≡ two (op_of operator) ((decoded rule.now.plan.now).nodes j).1 ((decoded rule.now.plan.now).nodes j).2) }
-    ensures { Stored work.old work.new (64 * j) (made (frame (read rule.now.drive.file.now) (decoded rule.now.plan.now)) (nodes_of (decoded rule.now.plan.now) j) (blocks work.old)) }
+    requires ready { Fillable rule.now.drive.file.now (decoded rule.now.plan.now) work.old j }
+    requires operands { let p = decoded rule.now.plan.now in nodes_of p j ≡ two (op_of operator) (p.nodes j).1 (p.nodes j).2 }
+    ensures { NodeMade rule.now.drive.file.now (decoded rule.now.plan.now) work.old j work.new }
 {
     let x = rule.plan.node(j);
     let a = 64 * x.1;
@@ -61,7 +61,7 @@ fn fill_two(work: &mut [u8], rule: &Rule, j: usize, operator: Operator)
 // Node j, which is no binder.
 pub fn fill(work: &mut [u8], rule: &Rule, j: usize)
     requires { Fillable rule.now.drive.file.now (decoded rule.now.plan.now) work.old j }
-    ensures { Stored work.old work.new (64 * j) (made (frame (read rule.now.drive.file.now) (decoded rule.now.plan.now)) (nodes_of (decoded rule.now.plan.now) j) (blocks work.old)) }
+    ensures { NodeMade rule.now.drive.file.now (decoded rule.now.plan.now) work.old j work.new }
 {
     let x = rule.plan.node(j);
     let c = 64 * j;
