@@ -3,9 +3,7 @@ ghost use Rattle.std.specs.Prelude.{◌≡◌, ◌+◌};
 ghost use Rattle.case_plan.specs.Plans.{decoded};
 ghost use Rattle.engine.specs.Computing.{Refreshable, Refreshed, Computable, Computed, Roundable, Rounded, Iterable, Iterated};
 
-use crate::begin::begin;
 use crate::blocks::Blocks;
-use crate::nodes::fill;
 use case_plan::{Direction, variable};
 use case_reader::{Kind, kind_of};
 use tables::advance;
@@ -51,11 +49,10 @@ impl Blocks<'_> {
     {
         let x = self.plan.node(j);
         let Kind::Binder(least) = kind_of(x) else {
-            fill(self.work, self.plan, j);
+            self.fill(j);
             return 0;
         };
-        let size = self.plan.size;
-        begin(self.work, size, j * size, least, grown);
+        self.begin(j, least, grown);
         let binder = Binder {
             node: j,
             least,

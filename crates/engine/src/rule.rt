@@ -6,14 +6,16 @@ ghost use Rattle.engine.specs.Computing.{Runnable, Ran};
 use crate::blocks::Blocks;
 use case_plan::{EVERY, Plan};
 
-fn root(blocks: &mut Blocks) -> usize
-    requires { Runnable (decoded blocks.old.plan.now) (length blocks.old.work.now) }
-    ensures is { Ran (decoded blocks.old.plan.now) blocks.old.work.now blocks.new.work.now result }
-    ensures same_reference { blocks.new.work.ghost_name ≡ blocks.old.work.ghost_name }
-{
-    let root = blocks.plan.root;
-    blocks.refresh(root, 0, EVERY, None);
-    blocks.compute(root, EVERY, None)
+impl Blocks<'_> {
+    fn compute_all(&mut self) -> usize
+        requires { Runnable (decoded self.old.plan.now) (length self.old.work.now) }
+        ensures is { Ran (decoded self.old.plan.now) self.old.work.now self.new.work.now result }
+        ensures same_reference { self.new.work.ghost_name ≡ self.old.work.ghost_name }
+    {
+        let root = self.plan.root;
+        self.refresh(root, 0, EVERY, None);
+        self.compute(root, EVERY, None)
+    }
 }
 
 // All nodes that the root reaches. The answer is how many rounds the root took.
@@ -22,5 +24,5 @@ pub fn run(work: &mut [u16], plan: &Plan) -> usize
     ensures { Ran (decoded plan.now) work.old work.new result }
 {
     let mut blocks = Blocks { work, plan };
-    root(&mut blocks)
+    blocks.compute_all()
 }

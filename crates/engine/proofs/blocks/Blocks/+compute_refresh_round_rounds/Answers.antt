@@ -38,10 +38,7 @@ compute-fill-requires t c =
 pub compute-returns-in_default-clause-is : goal.compute-returns-in_default-clause-is
 compute-returns-in_default-clause-is t c =
     computed_plain c.requires
-    (other_kind (decoded c.args.self.now.plan.now) c.args.j c.node-x.ensures c.kind_of.result c.kind_of.ensures c.in_default.not-Binder) c.fill.ensures
-
-pub compute-overflow_mul-j : goal.compute-overflow_mul-j
-compute-overflow_mul-j t c = omega (arith, room c.requires.ready, c.well_formed)
+    (other_kind (decoded c.args.self.now.plan.now) c.args.j c.node-x.ensures c.kind_of.result c.kind_of.ensures c.in_default.not-Binder) c.fill.ensures.is
 
 pub compute-begin-requires : goal.compute-begin-requires
 compute-begin-requires t c = room c.requires.ready
@@ -51,14 +48,14 @@ compute-rounds-requires t c =
     let x = c.node-x.result in
     let B : Binder = record { node = c.args.j; least = c.in-Binder.least; variable = x.1; body = x.2 } in
     let is = known (decoded c.args.self.now.plan.now) c.args.j c.node-x.ensures c.kind_of.ensures c.in-Binder.is in
-    (omega (arith, c.decreases), iterable B c.requires is c.begin.ensures)
+    (omega (arith, c.decreases), rw c.begin.ensures.plan (iterable B c.requires is c.begin.ensures.is))
 
 pub compute-returns-clause-is : goal.compute-returns-clause-is
 compute-returns-clause-is t c =
     let x = c.node-x.result in
     let B : Binder = record { node = c.args.j; least = c.in-Binder.least; variable = x.1; body = x.2 } in
     let is = known (decoded c.args.self.now.plan.now) c.args.j c.node-x.ensures c.kind_of.ensures c.in-Binder.is in
-    computed_binder B c.requires is c.begin.ensures (omega (arith, c.requires.ready.sound.limit)) c.rounds.ensures.is
+    computed_binder B c.requires is c.begin.ensures.is (omega (arith, c.requires.ready.sound.limit)) (rw c.begin.ensures.plan at c.rounds.ensures.is)
 
 -- ---- refresh
 pub refresh-refresh-requires : goal.refresh-refresh-requires
