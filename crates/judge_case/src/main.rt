@@ -19,7 +19,8 @@ use std::io::{Error, Read};
 fn starts_hold(file: &[u8], set: u16) -> bool
     ensures { result ≡ every_start (read file.now) (has set) }
 {
-    (0..start_count(file)).all(|i| holds(set, start(file, i)))
+    let count = start_count(file);
+    (0..count).all(|i| holds(set, start(file, i)))
 }
 
 // What is printed of a file, judged on all its states.
@@ -31,10 +32,14 @@ fn page_of(file: &[u8], work: &mut [u16]) -> Page
     match judge::judge(file, all_states(states), work) {
         Ok(verdict) => Page::Verdict {
             states,
+            rounds: verdict.rounds,
+            set: verdict.set,
             starts: starts_hold(file, verdict.set),
-            verdict,
         },
-        Err(refusal) => Page::Refused(refusal),
+        Err(refusal) => Page::Refused {
+            number: refusal.number(),
+            place: refusal.place,
+        },
     }
 }
 

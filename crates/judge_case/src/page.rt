@@ -2,9 +2,7 @@
 ghost use Rattle.std.specs.Prelude.{Some};
 ghost use Rattle.judge_case.specs.Printed.{lines, word};
 
-use case_file::Refusal;
 use case_reader::holds;
-use judge::Verdict;
 use std::fmt;
 
 #[derive(Clone, Copy)]
@@ -36,21 +34,25 @@ impl fmt::Display for Lines {
         let set = self.set;
         for s in 0..self.states {
             let answer = YesNo(holds(set, s));
-            write!(f, "{s} {answer}\n")?;
+            writeln!(f, "{s} {answer}")?;
         }
         Ok(())
     }
 }
 
-// The reply to a case of so many states, with whether every start state holds.
+// Judging's reply on a case of so many states, with whether every start state holds.
 #[derive(Clone, Copy)]
 pub(crate) enum Page {
     Verdict {
         states: usize,
+        rounds: usize,
+        set: u16,
         starts: bool,
-        verdict: Verdict,
     },
-    Refused(Refusal),
+    Refused {
+        number: u64,
+        place: usize,
+    },
 }
 
 impl fmt::Display for Page {
@@ -62,22 +64,18 @@ impl fmt::Display for Page {
         match *self {
             Page::Verdict {
                 states,
+                rounds,
+                set,
                 starts,
-                verdict,
             } => {
-                let rounds = verdict.rounds;
-                let lines = Lines {
-                    states,
-                    set: verdict.set,
-                };
-                let all = YesNo(starts);
-                write!(f, "states {states}\nrounds {rounds}\n{lines}starts {all}\n")
+                let lines = Lines { states, set };
+                let starts = YesNo(starts);
+                writeln!(
+                    f,
+                    "states {states}\nrounds {rounds}\n{lines}starts {starts}"
+                )
             }
-            Page::Refused(refusal) => {
-                let number = refusal.number();
-                let place = refusal.place;
-                write!(f, "refused {number} {place}\n")
-            }
+            Page::Refused { number, place } => writeln!(f, "refused {number} {place}"),
         }
     }
 }
