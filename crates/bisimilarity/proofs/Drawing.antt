@@ -3,55 +3,40 @@
 use mathlib.Core.Bool.{Bool, false}
 use mathlib.Core.List.{List}
 use mathlib.Core.Path.{◌≡◌, sym, ap, ◌∙◌}
-use Prim.Native.Nat.{ℕ, ◌+◌, ◌*◌, ◌≤◌, ◌<◌}
+use Prim.Native.Nat.{ℕ, ◌+◌, ◌*◌, ◌<◌}
 use native.Mathlib.Decide.{dec_lt}
 use native.Mathlib.Omega.{arith}
 use borrow.Author.Tests.{lt-ltb, le-ltb}
-use lib.Bits.{bit_and, and_zero_l}
+use lib.Bits.{bit_and}
 use lib.Dec.{ltb}
-use lib.ListN.{length, get_or, replicate, get_or-eq_default}
+use lib.ListN.{length, get_or, get_or-eq_default}
 use lib.Pow.{pow_mono}
 use Rattle.flc.specs.Sets.{both, has, set_of}
 use Rattle.flc.specs.Formula.{actions}
 use Rattle.flc.specs.Vocabulary.{reduct}
 use Rattle.flc.proofs.Masks.{has-set_of, set_of_lt, set_ext, has_empty, has_beyond}
-use Rattle.case_model.specs.Areas.{Filled}
 use Rattle.case_model.specs.Limits.{most_states}
 use Rattle.case_model.specs.Case.{Case, listed, table}
 use Rattle.case_model.specs.Looking.{looked}
 use Rattle.case_model.specs.Valid.{ValidTable}
 use Rattle.case_model.proofs.Tests.{is_false}
-use Rattle.case_model.proofs.Filling.{front_at}
 use Rattle.case_model.proofs.Steps.{listed_in}
 use Rattle.case_reader.specs.StepRows.{relation, StepRows}
 use Rattle.bisimilarity.specs.Graphs.{Drawn}
+use Rattle.bisimilarity.specs.Successors.{Within}
 use Rattle.bisimilarity.specs.declared.graph.Graph.{Graph}
 
--- a table filled with what is looked at of the labels has it all, and 0 past the last
-pub labels_filled : {i : ℕ} {table : List ℕ} (l : List ℕ) (props : ℕ) → Filled (replicate 16 0) table 0 i (λ u. bit_and (get_or l u 0) props) → 16 ≤ i
-    → length l ≤ 16 → (u : ℕ) → get_or table u 0 ≡ bit_and (get_or l u 0) props
-labels_filled {table = table} l props f h few u = elim (dec_lt u 16) [
-  | yes q ↦ front_at f u (omega arith)
-  | no q ↦
-      get_or-eq_default table 0 {n = u} (omega (arith, f.long))
-      ∙ sym (ap (λ x. bit_and x props) (get_or-eq_default l 0 {n = u} (omega arith)) ∙ and_zero_l props)
-]
-
-module _ {c : Case} (valid : ValidTable most_states c) (g : Graph)
-    (states : g.states ≡ length c.labels)
-    (labels : (s : ℕ) → get_or g.labels s 0 ≡ bit_and (get_or c.labels s 0) (looked c).props)
-    (acts : g.acts ≡ (looked c).acts)
-    (rows : StepRows c.steps g.successors) where
+module _ {c : Case} (valid : ValidTable most_states c) {steps : List ℕ} (rows : StepRows c.steps steps) where
   -- what is out of range is no step
   no_step : (s a t : ℕ) → ((s < length c.labels) → (a < actions) → (t < length c.labels) → ⊥) → listed c.steps s a t ≡ false
   no_step s a t n = is_false _ (λ u. let r = listed_in valid s a t u in n r.from r.action r.to)
 
   -- bit t of row 8s + a, for any state and any of the actions
-  row_is : (s a t : ℕ) → a < actions → relation g.successors s a t ≡ listed c.steps s a t
+  row_is : (s a t : ℕ) → a < actions → relation steps s a t ≡ listed c.steps s a t
   unfolding relation
   row_is s a t h = elim (dec_lt s 16) [
     | no k ↦
-        ap (λ y. has y t) (get_or-eq_default g.successors 0 {n = 8 * s + a} (omega (arith, rows.long))) ∙ has_empty t
+        ap (λ y. has y t) (get_or-eq_default steps 0 {n = 8 * s + a} (omega (arith, rows.long))) ∙ has_empty t
         ∙ sym (no_step s a t (λ i _ _. omega (arith, valid.few)))
     | yes k ↦ elim (dec_lt t 16) [
       | yes l ↦ rows.is s a t k h l
@@ -59,7 +44,7 @@ module _ {c : Case} (valid : ValidTable most_states c) (g : Graph)
     ]
   ]
 
-  steps_are : (s a t : ℕ) → both (ltb a actions) (has (get_or g.successors (8 * s + a) 0) t) ≡ listed c.steps s a t
+  steps_are : (s a t : ℕ) → both (ltb a actions) (has (get_or steps (8 * s + a) 0) t) ≡ listed c.steps s a t
   unfolding both relation
   steps_are s a t = elim (dec_lt a actions) [
     | yes h ↦ rw (lt-ltb a actions h) (row_is s a t h)
@@ -67,7 +52,7 @@ module _ {c : Case} (valid : ValidTable most_states c) (g : Graph)
   ]
 
   -- a row is a set of states
-  row_set : (s a : ℕ) → a < actions → get_or g.successors (8 * s + a) 0 ≡ set_of (length c.labels) (listed c.steps s a)
+  row_set : (s a : ℕ) → a < actions → get_or steps (8 * s + a) 0 ≡ set_of (length c.labels) (listed c.steps s a)
   unfolding relation
   row_set s a h =
       let n : ℕ = length c.labels in
@@ -78,12 +63,12 @@ module _ {c : Case} (valid : ValidTable most_states c) (g : Graph)
         | no l ↦ no_step s a t (λ _ _ i. l i) ∙ sym (has_beyond n _ t (set_of_lt n p) (omega arith))
       ])
 
-  pub drawn : Drawn c g
-  unfolding table reduct
-  drawn = record {
-    sized = record {
-      few = omega (arith, states, valid.few);
-      within = λ s a h. rw (row_set s a h, states) (set_of_lt (length c.labels) (listed c.steps s a));
-    };
-    is = λ i. record { n = states i; label = λ s. labels s i; step = λ s a t. both (has (acts i) a) (steps_are s a t i) };
-  }
+  pub within : {n : ℕ} → n ≡ length c.labels → Within n steps
+  within e s a h = rw (row_set s a h, e) (set_of_lt (length c.labels) (listed c.steps s a))
+
+pub drawn : {c : Case} (valid : ValidTable most_states c) (g : Graph) → g.states ≡ length c.labels
+    → ((s : ℕ) → get_or g.labels s 0 ≡ bit_and (get_or c.labels s 0) (looked c).props) → g.acts ≡ (looked c).acts → StepRows c.steps g.successors → Drawn c g
+unfolding table reduct
+drawn valid g states labels acts rows = record {
+  is = λ i. record { n = states i; label = λ s. labels s i; step = λ s a t. both (has (acts i) a) (steps_are valid rows s a t i) };
+}

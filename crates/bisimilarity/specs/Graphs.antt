@@ -1,10 +1,9 @@
 -- The state table that the code's graph holds: of a case, what its rule looks at.
-use Rattle.std.specs.Prelude.{ℕ, ◌+◌, ◌*◌, ◌^◌, ◌≤◌, ◌<◌, ◌≡◌, ltb, get_or}
+use Rattle.std.specs.Prelude.{◌+◌, ◌*◌, ◌≡◌, ltb, get_or}
 use Rattle.flc.specs.Sets.{both, has}
 use Rattle.flc.specs.Formula.{Table, actions}
 use Rattle.flc.specs.Vocabulary.{reduct}
 use Rattle.case_model.specs.Case.{Case, table}
-use Rattle.case_model.specs.Limits.{most_states}
 use Rattle.case_model.specs.Looking.{looked}
 use Rattle.bisimilarity.specs.declared.graph.Graph.{Graph}
 
@@ -15,12 +14,6 @@ table_of g = record {
   step = λ s a t. both (has g.acts a) (both (ltb a actions) (has (get_or g.successors (8 * s + a) 0) t));
 }
 
--- at most 16 states, and no step to another number
-pub record Sized (g : Graph) : Type 0 where
-  pub few : g.states ≤ most_states
-  pub within : (s a : ℕ) → a < actions → get_or g.successors (8 * s + a) 0 < 2 ^ g.states
-
 -- the graph of a case
 pub record Drawn (c : Case) (g : Graph) : Type 0 where
-  pub sized : Sized g
   pub is : table_of g ≡ reduct (looked c) (table c)

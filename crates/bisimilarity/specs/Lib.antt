@@ -1,2 +1,3 @@
+pub mod Successors
 pub mod Graphs
 pub mod Relations

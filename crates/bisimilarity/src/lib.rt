@@ -5,6 +5,5 @@ mod graph;
 mod masks;
 mod refinement;
 
-pub use graph::{Graph, draw};
+pub use graph::Graph;
 pub use masks::member;
-pub use refinement::alike_rows;

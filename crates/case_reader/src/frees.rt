@@ -20,7 +20,7 @@ fn single(v: usize) -> u16
 fn without(x: u16, v: usize) -> u16
     ensures { result ≡ without x v }
 {
-    if v < 16 { x & (65535 - (1u16 << v)) } else { x }
+    if v < 16 { x & !(1u16 << v) } else { x }
 }
 
 // Entry i of a table, 0 past its end.
@@ -42,7 +42,8 @@ fn mask_of(t: &[u16; 64], x: Triple) -> u16
     }
 }
 
-// Those of each node below j, in a table that had none. By recursion over the node's number, as all that goes from nodes to lower ones.
+// Those of each node below j, in a table that had none. A recursion, and no loop, by a rule of the project: what goes over nodes is a recursion with the
+// number falling.
 fn below(t: &mut [u16; 64], file: &[u8], j: usize)
     requires { (j ≤ most_nodes) × (t.old ≡ replicate most_nodes 0) }
     ensures { t.new ≡ masks (node_at (read file.now)) j }

@@ -14,7 +14,7 @@ pub const SECTIONS: usize = 4;
 #[derive(Clone, Copy, PartialEq, Eq, PartialOrd, Ord)]
 pub struct Triple(pub usize, pub usize, pub usize);
 
-// Where a section begins, and how many bytes it has, as its pair says.
+// Where a section begins, and how many bytes it has, as its pair says. A section goes by its number, and not by an enum: both answer for any number.
 pub fn section_offset(file: &[u8], section: usize) -> usize
     ensures { Is (cond (ltb section sections) (offset file.now section) 0) 65536 result }
 {

@@ -32,7 +32,7 @@ fn with_named(set: u64, x: Triple, j: usize) -> u64
     }
 }
 
-// The same for all nodes below k, from the highest down.
+// The same for all nodes below k, from the highest down. A recursion, and no loop, by the rule of the project for what goes over nodes.
 fn spread(file: &[u8], k: usize, set: u64) -> u64
     ensures { result ≡ spread (node_at (read file.now)) k set }
 {

@@ -2,6 +2,9 @@
 use mathlib.Core.List.{List, [], ◌++◌}
 use mathlib.Core.Path.{◌≡◌, refl, ◌∙◌, subst}
 use Prim.Native.Nat.{ℕ}
+use native.Mathlib.Omega.{arith}
+use lib.ListN.{length}
+use Rattle.case_model.specs.Areas.{Laid}
 use Rattle.case_model.proofs.Laying.{laid_none, laid_after}
 use Rattle.case_writer.specs.Writing.{Writes}
 use Rattle.case_writer.specs.declared.output.Output.{Output}
@@ -14,3 +17,9 @@ writes_after a b = record { same_area = b.same_area ∙ a.same_area; laid = laid
 
 pub writes_as : {o p : Output} {k l : List ℕ} → k ≡ l → Writes o p k → Writes o p l
 writes_as {o} {p} e a = subst (Writes o p) e a
+
+-- what an output has written that was made over an area
+pub written_first : {o p : Output} {w l : List ℕ} → o.area.now ≡ w → o.at ≡ 0 → Writes o p l → Laid w p.area.now 0 (length l) l
+written_first {o} {p} {w} {l} e z a =
+    let end : p.at ≡ length l = omega (arith, a.laid.ends) in
+    subst (λ n. Laid w p.area.now 0 n l) end (subst (λ n. Laid w p.area.now n p.at l) z (subst (λ v. Laid v p.area.now o.at p.at l) e a.laid))

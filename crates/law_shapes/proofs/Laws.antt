@@ -1,26 +1,24 @@
--- No law but 1 to 9 does anything, and the laws at a node of a rule: by the list of laws.
-use Prim.Native.Nat.{ℕ, zero, suc}
+-- A shape that a law gives only if it fits, and the laws at a node of a rule.
+use Prim.Native.Nat.{ℕ, ◌≤◌}
+use mathlib.Core.Bool.{Bool, true, false, cond}
 use mathlib.Core.List.{List, ◌∷◌}
 use mathlib.Core.Path.{◌≡◌, refl, ap, ap₂, ◌∙◌}
 use lib.ListN.{get_or}
 use Rattle.case_model.specs.Case.{at}
-use Rattle.case_model.specs.Kinds.{Triple}
-use Rattle.case_model.specs.Rewriting.{nothing, laws_at, change}
+use Rattle.case_model.specs.Kinds.{Triple, kinds}
+use Rattle.case_model.specs.Rewriting.{nothing, swap, laws_at, change}
+use Rattle.case_reader.specs.NodeKinds.{Decodes}
+use Rattle.case_reader.specs.declared.kinds.Kind.{Kind}
+use Rattle.case_reader.specs.declared.kinds.UnknownKind.{UnknownKind}
+use Rattle.std.specs.Bool.{then_some}
+use Rattle.std.specs.Prelude.{Result, Err}
+use Rattle.law_shapes.specs.Shapes.{placed, named, change_of}
+use Rattle.law_shapes.specs.declared.shapes.Shape.{Shape}
 
-pub no_law : (j : ℕ) (t x y : Triple) (law : ℕ)
-    → (law ≡ 1 → ⊥) → (law ≡ 2 → ⊥) → (law ≡ 3 → ⊥) → (law ≡ 4 → ⊥) → (law ≡ 5 → ⊥) → (law ≡ 6 → ⊥) → (law ≡ 7 → ⊥) → (law ≡ 8 → ⊥) → (law ≡ 9 → ⊥)
-    → nothing ≡ get_or (nothing ∷ laws_at j t x y) law nothing
-no_law j t x y zero a b c d e f g h i = refl
-no_law j t x y (suc zero) a b c d e f g h i = absurd (a refl)
-no_law j t x y (suc (suc zero)) a b c d e f g h i = absurd (b refl)
-no_law j t x y (suc (suc (suc zero))) a b c d e f g h i = absurd (c refl)
-no_law j t x y (suc (suc (suc (suc zero)))) a b c d e f g h i = absurd (d refl)
-no_law j t x y (suc (suc (suc (suc (suc zero))))) a b c d e f g h i = absurd (e refl)
-no_law j t x y (suc (suc (suc (suc (suc (suc zero)))))) a b c d e f g h i = absurd (f refl)
-no_law j t x y (suc (suc (suc (suc (suc (suc (suc zero))))))) a b c d e f g h i = absurd (g refl)
-no_law j t x y (suc (suc (suc (suc (suc (suc (suc (suc zero)))))))) a b c d e f g h i = absurd (h refl)
-no_law j t x y (suc (suc (suc (suc (suc (suc (suc (suc (suc zero))))))))) a b c d e f g h i = absurd (i refl)
-no_law j t x y (suc (suc (suc (suc (suc (suc (suc (suc (suc (suc law)))))))))) a b c d e f g h i = refl
+-- a shape that is given if its test passed
+pub given : (j : ℕ) (b : Bool) (s : Shape) → change_of j (then_some b s) ≡ cond b (swap (placed s) (named j s)) nothing
+given j true s = refl
+given j false s = refl
 
 -- the list of laws at node j of a rule
 pub at_node : (N : List Triple) (law j : ℕ) (t x y : Triple) → t ≡ at N j → x ≡ at N t.1 → y ≡ at N t.2
@@ -29,3 +27,8 @@ unfolding change
 at_node N law j t x y p q r =
     ap₂ (λ (x y : Triple). get_or (nothing ∷ laws_at j t x y) law nothing) q r
     ∙ ap (λ (t : Triple). get_or (nothing ∷ laws_at j t (at N t.1) (at N t.2)) law nothing) p
+
+-- a number that is no kind's is above those of all kinds
+pub unknown_above : (n : ℕ) (r : Result Kind UnknownKind) (e : UnknownKind) → Decodes n r → r ≡ Err e → 15 ≤ n
+unfolding kinds
+unknown_above n r e d q = let past = rw q at d in past.1

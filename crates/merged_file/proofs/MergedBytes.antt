@@ -7,26 +7,26 @@ use native.Mathlib.Nat.{not-suc-le-zero, le_of_suc-le-suc}
 use native.Mathlib.Omega.{arith}
 use lib.ListN.{length, take, drop, length-append, length-drop}
 use lib.Seq.{length-take-le}
-use Rattle.case_model.specs.Areas.{Laid}
 use Rattle.case_model.specs.Limits.{standard}
 use Rattle.case_model.specs.Bytes.{list_of, byte_at, offset, size, section, pairs}
 use Rattle.case_model.specs.Case.{Case, read, flat, write}
 use Rattle.case_model.specs.Rows.{sound, refusals}
-use Rattle.case_model.specs.Replies.{Counts}
+use Rattle.case_model.specs.Replies.{Counts, Accepted}
 use Rattle.case_model.specs.Merging.{moved_steps, in_order, merge}
-use Rattle.case_model.proofs.Lists.{length-list_of, list_of_ext}
+use Rattle.case_model.proofs.Lists.{length-list_of, list_of_ext, list_of-part}
 use Rattle.case_model.proofs.Sections.{section-length, section-after, within}
 use Rattle.case_model.proofs.SectionBytes.{rule_bytes_lem}
 use Rattle.case_model.proofs.Valid.{accepted_pairs, rule_whole, accepted_valid}
 use Rattle.case_model.specs.Valid.{Valid}
 use Rattle.case_model.proofs.Codec.{length-flat, length-write}
 use Rattle.case_model.proofs.Starts.{start_in}
-use Rattle.case_model.proofs.Laying.{laid_after, laid_as}
 use Rattle.case_reader.specs.StepRows.{relation, StepRows}
-use Rattle.case_writer.specs.Parts.{part}
-use Rattle.case_writer.proofs.Packing.{ended, next, laid_packed}
-use Rattle.merged_file.specs.Merged.{total, Named, Measured, new_file}
-use Rattle.merged_file.specs.declared.writing.Sizes.{Sizes}
+use Rattle.case_writer.specs.Writing.{Writes, whole}
+use Rattle.case_writer.proofs.Packing.{ended, next, writes_packed}
+use Rattle.case_writer.proofs.Runs.{writes_after, writes_as}
+use Rattle.merged_file.specs.Merged.{Named, Measured, new_file}
+use Rattle.case_writer.specs.declared.sizes.Sizes.{Sizes}
+use Rattle.case_writer.specs.declared.output.Output.{Output}
 use Rattle.merged_starts.specs.StartSets.{start_set, Small, members}
 use Rattle.merged_starts.proofs.Members.{members_merged, members_few}
 use Rattle.merged_steps.specs.declared.rows.Pair.{Pair}
@@ -50,6 +50,14 @@ drop-list_of (suc r) (suc n) g h e =
     rw z (drop-list_of r n g (λ i. h (suc i)) (λ i. let q : suc (r + i) ≡ suc r + i = omega arith in rw q (e i)))
 
 -- ---- an accepted file
+-- n bytes of f from `from` on, byte by byte and as a slice of f
+unfoldable part : List ℕ → ℕ → ℕ → List ℕ
+part f from n = list_of n (λ i. byte_at f (from + i))
+
+slice_is : (f : List ℕ) {from at n k : ℕ} → from ≡ at → n ≡ k → at + k ≤ length f → take n (drop from f) ≡ part f at k
+unfolding part
+slice_is f {at = at} {k = k} e q h = ap₂ (λ m i. take m (drop i f)) q e ∙ sym (list_of-part f at k 0 h)
+
 nodes_length : (f : List ℕ) → length (read f).nodes ≡ size f 2 / 3
 nodes_length f = length-list_of (size f 2 / 3) _
 
@@ -98,7 +106,7 @@ module _ {f : List ℕ} {p : Pair} {rows : List ℕ} {set : ℕ} {z : Sizes} (m 
   unfolding c
   starts = ap members m.set_is ∙ members_merged (read f) p
 
-  pub total_is : total z ≡ length (new_file f p)
+  pub total_is : whole z ≡ length (new_file f p)
   unfolding c
   total_is =
       let e : length c.nodes ≡ length (read f).nodes = unfold merge in refl in
@@ -118,20 +126,6 @@ module _ {f : List ℕ} {p : Pair} {rows : List ℕ} {set : ℕ} {z : Sizes} (m 
 
   abbrev sizes : List ℕ
   sizes = z.labels ∷ z.steps ∷ z.rule ∷ z.starts ∷ []
-
-  pub merged_laid : {w v1 v2 v3 v4 v5 v6 : List ℕ} {a b d e g h : ℕ} (n o q : ℕ) → n ≡ z.labels - p.removed → o ≡ offset f 0 → q ≡ offset f 2
-      → Laid w v1 0 a (pairs (4 * length sizes) sizes) → Laid v1 v2 a b (part f o p.removed) → Laid v2 v3 b d (part f (o + p.removed + 1) n)
-      → Laid v3 v4 d e (flat (in_order 2048 (relation rows))) → Laid v4 v5 e g (part f q z.rule)
-      → Laid v5 v6 g h (members set) → Laid w v6 0 h (new_file f p)
-  unfolding c write merge
-  merged_laid n o q i j k h1 h2 h3 h4 h5 h6 =
-      let len : n ≡ length (read f).labels - suc p.removed = omega (arith, m.labels) in
-      let labels = (λ y. part f (j y) p.removed ++ part f (j y + p.removed + 1) (len y)) ∙ labels_are f p.removed m.removed in
-      let rule = ap₂ (part f) k m.rule ∙ rule_is f m.accepted in
-      laid_packed sizes h1 (next (m.labels ∙ sym states) (laid_as labels (laid_after h2 h3))
-      (next (sym step_bytes) (laid_as (ap flat steps) h4)
-      (next (m.rule ∙ sym (rule-size f m.accepted)) (laid_as rule h5)
-      (next (m.starts ∙ ap length starts) (laid_as starts h6) ended))))
 
   -- each part lies within the file, and the sizes are small
   pub record Within : Type 0 where
@@ -156,25 +150,41 @@ module _ {f : List ℕ} {p : Pair} {rows : List ℕ} {set : ℕ} {z : Sizes} (m 
         starts_few = members_few set;
       }
 
+  pub merged_written : {o q r t u v w : Output} (from rule below above all : ℕ) → from ≡ offset f 0 → rule ≡ offset f 2
+      → below ≡ p.removed → above ≡ z.labels - p.removed → all ≡ z.rule
+      → Writes o q (pairs (4 * length sizes) sizes) → Writes q r (take below (drop from f)) → Writes r t (take above (drop (from + p.removed + 1) f))
+      → Writes t u (flat (in_order 2048 (relation rows))) → Writes u v (take all (drop rule f)) → Writes v w (members set) → Writes o w (new_file f p)
+  unfolding c write merge
+  merged_written from rule below above all i j k l n w1 w2 w3 w4 w5 w6 =
+      let g : Within = fits in
+      let low : take below (drop from f) ≡ part f (offset f 0) p.removed = slice_is f i k (omega (arith, m.removed)) in
+      let high : take above (drop (from + p.removed + 1) f) ≡ part f (offset f 0 + p.removed + 1) (length (read f).labels - suc p.removed) =
+      slice_is f (ap (λ x. x + p.removed + 1) i) (omega (arith, m.labels)) (omega (arith, m.removed)) in
+      let whole_rule : take all (drop rule f) ≡ part f (offset f 2) (size f 2) = slice_is f j (n ∙ m.rule) (omega arith) in
+      writes_packed sizes w1 (next (m.labels ∙ sym states) (writes_as (ap₂ ◌++◌ low high ∙ labels_are f p.removed m.removed) (writes_after w2 w3))
+      (next (sym step_bytes) (writes_as (ap flat steps) w4)
+      (next (m.rule ∙ sym (rule-size f m.accepted)) (writes_as (whole_rule ∙ rule_is f m.accepted) w5)
+      (next (m.starts ∙ ap length starts) (writes_as starts w6) ended))))
+
 -- ---- from what is known before anything is measured
-module _ {f : List ℕ} {n : Counts} {p : Pair} {rows : List ℕ} (h : Named f n p rows) where
+module _ {f : List ℕ} {n : Counts} (ok : Accepted standard f n) {p : Pair} {rows : List ℕ} (h : Named f n p rows) where
   named_valid : Valid standard (read f)
-  named_valid = accepted_valid standard f h.accepted.rows
+  named_valid = accepted_valid standard f ok.rows
 
   -- its states have a place in a set
   pub starts_small : Small (read f) p
   starts_small =
       let few = named_valid.table.few in
-      record { kept = omega (arith, h.kept, h.accepted.states); starts = λ i l. omega (arith, start_in named_valid i l) }
+      record { kept = omega (arith, h.kept, ok.states); starts = λ i l. omega (arith, start_in named_valid i l) }
 
   pub measured : {set : ℕ} {merged : List ℕ} (z : Sizes) → StepRows (moved_steps p.kept p.removed (in_order 2048 (relation rows))) merged
       → z.labels ≡ p.removed + (n.states - suc p.removed) → z.steps ≡ 3 * length (in_order 2048 (relation merged))
       → z.rule ≡ size f 2 → set ≡ start_set (read f) p → z.starts ≡ length (members set) → Measured f p merged set z
   measured z m i j k e l = record {
-    accepted = h.accepted.rows;
-    removed = omega (arith, h.removed, h.accepted.states);
+    accepted = ok.rows;
+    removed = omega (arith, h.removed, ok.states);
     marks = carried_all named_valid.table p.kept p.removed h.steps m;
-    labels = omega (arith, h.accepted.states);
+    labels = omega (arith, ok.states);
     steps = j;
     set_is = e;
     rule = k;

@@ -21,12 +21,8 @@ module _ (f out : List ℕ) (p : Pair) (all : ℕ) (is : all ≡ length (new_fil
   fits h = rw (le-leb (length (new_file f p)) (length out) (omega arith))
 
   -- the count, and the output area
-  pub record Answered (v : List ℕ) : Type 0 where
-    pub count : answers all ≡ counted (fitting f p (length out))
-    pub area : v ≡ written (fitting f p (length out)) out
+  pub answered_count : all ≤ length out → answers all ≡ counted (fitting f p (length out))
+  answered_count h = rw (fits h, is)
 
-  pub answered : {v : List ℕ} (end : ℕ) → all ≤ length out → Laid out v 0 end (new_file f p) → Answered v
-  answered end h l = record {
-    count = rw (fits h, is);
-    area = rw (fits h) (laid_whole l (omega (arith, l.ends)));
-  }
+  pub answered_area : {v : List ℕ} → all ≤ length out → Laid out v 0 (length (new_file f p)) (new_file f p) → v ≡ written (fitting f p (length out)) out
+  answered_area h l = rw (fits h) (laid_whole l (omega arith))

@@ -3,46 +3,54 @@ ghost use Rattle.std.specs.Prelude.{◌≡◌, suc, ◌+◌, ◌-◌, ◌≤◌,
 ghost use Rattle.case_model.specs.Areas.{Laid};
 ghost use Rattle.case_model.specs.Replies.{counted, written};
 ghost use Rattle.case_file.specs.EnumNumbers.{case_counts, written_reply};
-ghost use Rattle.merged_file.specs.Merged.{total, Named, Measured, new_file, fitting};
+ghost use Rattle.case_writer.specs.Writing.{Writes, whole};
+ghost use Rattle.merged_file.specs.Merged.{Named, Measured, new_file, fitting};
 
-use case_file::{Case, Reason, Written, refused};
+use case_file::{Case, Reason, Refusal};
 use case_reader::{section_offset, section_size};
-use case_writer::{put_pairs, put_part};
+use case_writer::{Output, Sizes};
 use merged_starts::{merged_starts, put_starts};
 use merged_steps::{Pair, count, merged_rows, put_steps};
-
-// How many bytes each section has.
-#[derive(Clone, Copy)]
-struct Sizes {
-    labels: usize,
-    steps: usize,
-    rule: usize,
-    starts: usize,
-}
 
 // The head, the labels without the removed one, the steps, the rule and the start states.
 fn put_merged(
     file: &[u8],
     pair: Pair,
-    rows: [u16; 128],
+    rows: &[u16; 128],
+    starts: u16,
+    sizes: Sizes,
+    output: &mut Output,
+)
+    requires { Measured file.now pair rows.now starts sizes × (output.old.at + whole sizes ≤ length output.old.area.now) }
+    ensures { Writes output.old output.new (new_file file.now pair) }
+{
+    let labels = section_offset(file, 0);
+    let removed = labels + pair.removed;
+    let above = removed + 1;
+    let rule = section_offset(file, 2);
+    output.pairs(&sizes.each());
+    output.part(&file[labels..removed]);
+    output.part(&file[above..above + sizes.labels - pair.removed]);
+    put_steps(rows, output);
+    output.part(&file[rule..rule + sizes.rule]);
+    put_starts(starts, output);
+}
+
+// The same at the start of an area.
+#[tactic(auto, using(case_writer::proofs::Runs::written_first))]
+fn write_merged(
+    file: &[u8],
+    pair: Pair,
+    rows: &[u16; 128],
     starts: u16,
     sizes: Sizes,
     out: &mut [u8],
-) -> usize
-    requires { Measured file.now pair rows starts sizes × (total sizes ≤ length out.old) }
-    ensures { Laid out.old out.new 0 result (new_file file.now pair) }
+)
+    requires { Measured file.now pair rows.now starts sizes × (whole sizes ≤ length out.old) }
+    ensures { Laid out.old out.new 0 (length (new_file file.now pair)) (new_file file.now pair) }
 {
-    let labels = section_offset(file, 0);
-    let rule = section_offset(file, 2);
-    let below = pair.removed;
-    let above = sizes.labels - below;
-    let lengths = [sizes.labels, sizes.steps, sizes.rule, sizes.starts];
-    let first = put_pairs(&lengths, out);
-    let second = put_part(file, labels, below, out, first);
-    let third = put_part(file, labels + below + 1, above, out, second);
-    let fourth = put_steps(rows, out, third);
-    let fifth = put_part(file, rule, sizes.rule, out, fourth);
-    put_starts(starts, out, fifth)
+    let mut output = Output::new(out);
+    put_merged(file, pair, rows, starts, sizes, &mut output);
 }
 
 // How many of n labels are left: those below and those above the removed one. Where that is n, all are.
@@ -55,32 +63,29 @@ fn labels_left(n: usize, removed: usize) -> usize
 
 // Merges a pair of an accepted case, whose steps have been read into rows, if there is room.
 pub fn merge_pair(
-    file: &[u8],
     case: Case,
     pair: Pair,
-    before: [u16; 128],
+    before: &[u16; 128],
     out: &mut [u8],
-) -> Written
-    requires { Named file.now (case_counts case) pair before }
-    ensures result_value { written_reply result ≡ counted (fitting file.now pair (length out.old)) }
-    ensures out_after { out.new ≡ written (fitting file.now pair (length out.old)) out.old }
+) -> Result<usize, Refusal>
+    requires { Named case.file.now (case_counts case) pair before.now }
+    ensures result_value { written_reply result ≡ counted (fitting case.entry.file.now pair (length out.old)) }
+    ensures out_after { out.new ≡ written (fitting case.entry.file.now pair (length out.old)) out.old }
 {
+    let file = case.file();
     let rows = merged_rows(before, pair);
-    let set = merged_starts(file, pair);
-    let labels = labels_left(case.states(), pair.removed);
-    let steps = 3 * count(rows);
+    let starts = merged_starts(file, pair);
     let rule = section_size(file, 2);
-    let starts = merged_starts::count(set);
-    let all = 4 * Case::SECTIONS + labels + steps + rule + starts;
-    if out.len() < all {
-        return refused(Reason::Room);
-    }
     let sizes = Sizes {
-        labels,
-        steps,
+        labels: labels_left(case.states(), pair.removed),
+        steps: 3 * count(&rows),
         rule,
-        starts,
+        starts: merged_starts::count(starts),
     };
-    put_merged(file, pair, rows, set, sizes, out);
-    Written::Bytes(all)
+    let all = sizes.whole();
+    if out.len() < all {
+        return Err(Reason::Room.into());
+    }
+    write_merged(file, pair, &rows, starts, sizes, out);
+    Ok(all)
 }

@@ -1,42 +1,36 @@
 // Merging: the lower of two alike states is kept and stands for both, the higher is removed.
-ghost use Rattle.case_model.specs.Limits.{standard};
-ghost use Rattle.case_model.specs.Replies.{Accepted};
 ghost use Rattle.case_model.specs.Book.{merges};
 ghost use Rattle.case_model.specs.Run.{Promised};
-ghost use Rattle.case_file.specs.EnumNumbers.{case_counts, written_reply};
+ghost use Rattle.case_file.specs.EnumNumbers.{written_reply};
 
-use bisimilarity::{alike_rows, draw, member};
-use case_file::{Case, Checked, Reason, Written, refused};
-use case_reader::step_rows;
+use bisimilarity::Graph;
+use case_file::{Case, Reason, Refusal};
+use case_reader::{holds, step_rows};
 use merged_file::merge_pair;
 use merged_steps::Pair;
 
 // Merges s and t of an accepted case.
-fn merge_states(file: &[u8], case: Case, s: usize, t: usize, out: &mut [u8]) -> Written
-    requires { Accepted standard file.now (case_counts case) }
-    ensures { Promised file.now (record { asked = merges s t; before = out.old; after = out.new; told = written_reply result }) }
+fn merge_states(case: Case, s: usize, t: usize, out: &mut [u8]) -> Result<usize, Refusal>
+    ensures { Promised case.entry.file.now (record { asked = merges s t; before = out.old; after = out.new; told = written_reply result }) }
 {
     let n = case.states();
     let inside = (s < n) & (t < n);
     if !inside {
-        return refused(Reason::Beyond);
+        return Err(Reason::Beyond.into());
     }
-    let steps = step_rows(file, false);
-    let rows = alike_rows(draw(file, case, steps));
-    let mergeable = (s != t) & member(rows[s], t);
+    let steps = step_rows(case.file(), false);
+    let rows = Graph::draw(case, steps).alike_rows();
+    let mergeable = (s != t) & holds(rows[s], t);
     if !mergeable {
-        return refused(Reason::Unlike);
+        return Err(Reason::Unlike.into());
     }
-    merge_pair(file, case, Pair::of(s, t), steps, out)
+    merge_pair(case, Pair::of(s, t), &steps, out)
 }
 
 // Merges s and t, given in either order, and writes the new case.
-pub fn merge(file: &[u8], s: usize, t: usize, out: &mut [u8]) -> Written
+#[tactic(auto, using(case_model::proofs::Replying::refused_too), unfolding(case_model::specs::Merging::merging))]
+pub fn merge(file: &[u8], s: usize, t: usize, out: &mut [u8]) -> Result<usize, Refusal>
     ensures { Promised file.now (record { asked = merges s t; before = out.old; after = out.new; told = written_reply result }) }
 {
-    let checked = Case::new(file);
-    let Checked::Case(case) = checked else {
-        return Written::Refused(checked.refusal());
-    };
-    merge_states(file, case, s, t, out)
+    merge_states(Case::new(file)?, s, t, out)
 }

@@ -7,48 +7,29 @@ ghost use Rattle.case_reader.specs.NodeKinds.{atom_with, op_of};
 ghost use Rattle.regular_model.specs.Regular.{modality, constant, regular};
 ghost use Rattle.regular_model.specs.Profile.{modal_at, suits};
 
-use case_reader::{Atom, Kind, Operator, kind_of, node, node_count, reached, root};
+use case_reader::{Atom, Kind, Operator, has, kind_of, node, node_count, reached, root};
 
 // An atom's operand does not matter to this test and the next: their contracts have 0 for it.
 fn is_modality(atom: Atom) -> bool
     ensures { result ≡ modality (atom_with atom 0) }
 {
-    match atom {
-        Atom::Top => false,
-        Atom::Bottom => false,
-        Atom::Proposition => false,
-        Atom::Complement => false,
-        Atom::Tau => false,
-        Atom::Action(_) => true,
-        Atom::Group(_) => true,
-    }
+    matches!(atom, Atom::Action(_) | Atom::Group(_))
 }
 
 // The one atom that is neither a modality nor constant.
 fn is_tau(atom: Atom) -> bool
     ensures { not result ≡ (modality (atom_with atom 0) || constant (atom_with atom 0)) }
 {
-    match atom {
-        Atom::Top => false,
-        Atom::Bottom => false,
-        Atom::Proposition => false,
-        Atom::Complement => false,
-        Atom::Tau => true,
-        Atom::Action(_) => false,
-        Atom::Group(_) => false,
-    }
+    matches!(atom, Atom::Tau)
 }
 
 // Is node i of the file a modality?
 fn modal_at(file: &[u8], i: usize) -> bool
     ensures { result ≡ modal_at (read file.now) i }
 {
-    let kind = kind_of(node(file, i));
-    match kind {
+    match kind_of(node(file, i)) {
         Kind::Atom(atom) => is_modality(atom),
-        Kind::Variable => false,
-        Kind::Two(_) => false,
-        Kind::Binder(_) => false,
+        Kind::Variable | Kind::Two(_) | Kind::Binder(_) => false,
     }
 }
 
@@ -59,8 +40,7 @@ fn sides_suit(file: &[u8], operator: Operator, a: usize, b: usize) -> bool
     let left = modal_at(file, a);
     let right = modal_at(file, b);
     match operator {
-        Operator::Or => !left & !right,
-        Operator::And => !left & !right,
+        Operator::Or | Operator::And => !left & !right,
         Operator::Chop => left & !right,
     }
 }
@@ -70,8 +50,7 @@ fn node_suits(file: &[u8], j: usize) -> bool
     ensures { result ≡ suits (modal_at (read file.now)) (at (read file.now).nodes j) }
 {
     let x = node(file, j);
-    let kind = kind_of(x);
-    match kind {
+    match kind_of(x) {
         Kind::Atom(atom) => !is_tau(atom),
         Kind::Variable => true,
         Kind::Two(operator) => sides_suit(file, operator, x.1, x.2),
@@ -85,11 +64,6 @@ pub fn is_regular(file: &[u8]) -> bool
     ensures { result ≡ regular (rule (read file.now)) }
 {
     let nodes = reached(file);
-    let m = node_count(file);
-    let mut all = true;
-    for j in 0..m {
-        let absent = (nodes >> j) % 2 != 1;
-        all = all & (absent | node_suits(file, j));
-    }
-    !modal_at(file, root(file)) & all
+    !modal_at(file, root(file))
+        && (0..node_count(file)).all(|j| !has(nodes, j) || node_suits(file, j))
 }

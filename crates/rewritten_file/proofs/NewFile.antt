@@ -2,69 +2,69 @@
 -- Labels, steps and start states are sections of the old file; the steps are whole triples, because no refusal was found.
 use Prim.Native.Nat.{ℕ, ◌+◌, ◌*◌, ◌≤◌, ◌<◌}
 use mathlib.Core.List.{List, [], ◌∷◌}
-use mathlib.Core.Path.{◌≡◌, ap, ◌∙◌}
+use mathlib.Core.Path.{◌≡◌, sym, ap, ap₂, ◌∙◌}
+use native.Mathlib.Numerals.{add-one}
 use native.Mathlib.Omega.{arith}
-use lib.ListN.{length, length-append}
-use Rattle.case_model.specs.Areas.{Laid}
-use Rattle.case_model.specs.Bytes.{list_of, offset, section, pairs}
+use lib.ListN.{length, take, drop, length-append}
+use Rattle.case_model.specs.Bytes.{list_of, offset, size, section, pairs}
 use Rattle.case_model.specs.Case.{triples, write, flat, at}
 use Rattle.case_model.specs.Kinds.{Triple}
 use Rattle.case_model.specs.Limits.{sections, standard}
 use Rattle.case_model.specs.Rewriting.{rewrite}
 use Rattle.case_model.specs.Rows.{sound, refusals}
-use Rattle.case_model.proofs.Laying.{laid_none, laid_as}
-use Rattle.case_model.proofs.Lists.{length-list_of, list_of-get_or}
-use Rattle.case_model.proofs.Sections.{section-length, within}
+use Rattle.case_model.proofs.Lists.{length-list_of, list_of-get_or, list_of-part, list_of_more}
+use Rattle.case_model.proofs.Sections.{within}
 use Rattle.case_model.proofs.SectionBytes.{steps_bytes}
 use Rattle.case_model.proofs.Valid.{accepted_pairs, steps_whole}
-use Rattle.case_model.proofs.Codec.{length-flat, length-write}
+use Rattle.case_model.proofs.Codec.{length-flat, flat_append, length-write}
 use Rattle.case_model.proofs.Accepting.{write_short}
-use Rattle.case_writer.specs.Parts.{part}
-use Rattle.case_writer.proofs.Parts.{laid_triple}
-use Rattle.case_writer.proofs.Packing.{ended, next, laid_packed}
+use Rattle.case_writer.specs.Writing.{Writes}
+use Rattle.case_writer.specs.declared.output.Output.{Output}
+use Rattle.case_writer.specs.declared.sizes.Sizes.{Sizes}
+use Rattle.case_writer.proofs.Runs.{writes_none, writes_after, writes_as}
+use Rattle.case_writer.proofs.Packing.{ended, next, writes_packed}
 use Rattle.rewritten_file.specs.Plans.{renewed, rule_bytes, Planned, Measured}
 use Rattle.rewritten_file.specs.declared.plan.Plan.{Plan}
-use Rattle.rewritten_file.specs.declared.plan.Sizes.{Sizes}
 use Rattle.rewritten_file.proofs.Renewed.{valid}
 
 -- ---- the parts that stay
-pub section_bytes : (f : List ℕ) (k : ℕ) → part f (offset f k) (length (section f k)) ≡ section f k
-unfolding part section
-section_bytes f k = ap (part f (offset f k)) (section-length f k)
+pub section_slice : (f : List ℕ) → refusals standard f ≡ sound → (k : ℕ) → k < sections → (start n : ℕ) → start ≡ offset f k → n ≡ size f k
+    → take n (drop start f) ≡ section f k
+unfolding section
+section_slice f ok k h start n e q =
+    ap₂ (λ m i. take m (drop i f)) q e ∙ sym (list_of-part f (offset f k) (size f k) 0 (within standard f (accepted_pairs standard f ok) k h))
 
--- each ends within the old file
-pub section_within : (f : List ℕ) → refusals standard f ≡ sound → (k : ℕ) → k < sections → offset f k + length (section f k) ≤ length f
-section_within f ok k h = omega (arith, within standard f (accepted_pairs standard f ok) k h, section-length f k)
-
--- ---- the new nodes, laid one by one
--- the first i of them are laid, up to `end`
-pub record NodesLaid (f : List ℕ) (p : Plan) (w v : List ℕ) (base end i : ℕ) : Type 0 where
+-- ---- the new nodes, written one by one
+-- the first i of them are written
+pub record NodesWritten (f : List ℕ) (p : Plan) (o q : Output) (i : ℕ) : Type 0 where
   pub inside : i ≤ p.nodes
-  pub laid : Laid w v base end (flat (list_of i (at (renewed f p).nodes)))
+  pub written : Writes o q (flat (list_of i (at (renewed f p).nodes)))
 
-pub nodes_none : (f : List ℕ) (p : Plan) (w : List ℕ) (base : ℕ) → NodesLaid f p w w base base 0
+pub nodes_none : (f : List ℕ) (p : Plan) (o : Output) → NodesWritten f p o o 0
 unfolding list_of
-nodes_none f p w base = record { inside = omega arith; laid = laid_none w base }
+nodes_none f p o = record { inside = omega arith; written = writes_none o }
 
-module _ {f : List ℕ} {p : Plan} {w v : List ℕ} {base end i : ℕ} (k : NodesLaid f p w v base end i) where
+module _ {f : List ℕ} {p : Plan} {o q : Output} {i : ℕ} (k : NodesWritten f p o q i) where
   -- there is room for a node
-  pub nodes_room : i < p.nodes → end + 3 ≤ base + 3 * p.nodes
+  pub nodes_room : i < p.nodes → q.at + 3 ≤ o.at + 3 * p.nodes
   nodes_room l =
       let g : ℕ → Triple = at (renewed f p).nodes in
-      omega (arith, k.laid.ends, length-flat (list_of i g), length-list_of i g)
+      omega (arith, k.written.laid.ends, length-flat (list_of i g), length-list_of i g)
 
-  pub nodes_turn : i < p.nodes → {u : List ℕ} {end' : ℕ} (t : Triple) → t ≡ at (renewed f p).nodes i → Laid v u end end' (flat (t ∷ []))
-      → NodesLaid f p w u base end' (i + 1)
-  nodes_turn l t e a = record {
-    inside = omega arith;
-    laid = laid_triple (at (renewed f p).nodes) i k.laid (laid_as (ap (λ (t : Triple). flat (t ∷ [])) e) a);
-  }
+  pub nodes_turn : i < p.nodes → {r : Output} (t : Triple) → t ≡ at (renewed f p).nodes i → Writes q r (flat (t ∷ [])) → NodesWritten f p o r (i + 1)
+  nodes_turn l {r} t e w =
+      let g : ℕ → Triple = at (renewed f p).nodes in
+      record {
+        inside = omega arith;
+        written = rw (add-one i, list_of_more i g, flat_append (list_of i g) (g i ∷ []))
+            (writes_after k.written (writes_as (ap (λ (t : Triple). flat (t ∷ [])) e) w));
+      }
 
-  pub nodes_all : Planned f p → p.nodes ≤ i → Laid w v base end (flat (renewed f p).nodes)
+  pub nodes_all : Planned f p → p.nodes ≤ i → Writes o q (flat (renewed f p).nodes)
   nodes_all h l =
       let N : List Triple = (renewed f p).nodes in
       let e : i ≡ length N = omega (arith, k.inside, h.nodes) in
-      laid_as (ap flat (ap (λ n. list_of n (at N)) e ∙ list_of-get_or N (0, 0, 0))) k.laid
+      writes_as (ap flat (ap (λ n. list_of n (at N)) e ∙ list_of-get_or N (0, 0, 0))) k.written
 
 -- ---- the whole file
 module _ {f : List ℕ} {p : Plan} (h : Planned f p) where
@@ -83,15 +83,14 @@ module _ {f : List ℕ} {p : Plan} (h : Planned f p) where
   pub new_short : length (write (renewed f p)) < 65536
   new_short = omega (arith, write_short (renewed f p) (valid h))
 
-  -- its head, two sections that stay, the rule and the section behind it, laid one after the other
-  pub laid_new : {z : Sizes} → Measured f p z → {w a b c d u : List ℕ} {at₀ at₁ at₂ at₃ end : ℕ}
-      → Laid w a 0 at₀ (pairs (4 * sections) (z.labels ∷ z.steps ∷ z.rule ∷ z.starts ∷ [])) → Laid a b at₀ at₁ (section f 0)
-      → Laid b c at₁ at₂ (section f 1) → Laid c d at₂ at₃ (rule_bytes (renewed f p)) → Laid d u at₃ end (section f 3)
-      → Laid w u 0 end (write (renewed f p))
+  -- its head, two sections that stay, the rule and the section behind it, written one after the other
+  pub new_written : {z : Sizes} → Measured f p z → {o q r t u v : Output}
+      → Writes o q (pairs (4 * sections) (z.labels ∷ z.steps ∷ z.rule ∷ z.starts ∷ [])) → Writes q r (section f 0)
+      → Writes r t (section f 1) → Writes t u (rule_bytes (renewed f p)) → Writes u v (section f 3) → Writes o v (write (renewed f p))
   unfolding write rewrite
-  laid_new {z} m head labels steps rule starts =
-      laid_packed (z.labels ∷ z.steps ∷ z.rule ∷ z.starts ∷ []) head
+  new_written {z} m head labels steps rule starts =
+      writes_packed (z.labels ∷ z.steps ∷ z.rule ∷ z.starts ∷ []) head
       (next m.labels labels
-      (next (m.steps ∙ ap length steps_are) (laid_as steps_are steps)
+      (next (m.steps ∙ ap length steps_are) (writes_as steps_are steps)
       (next m.rule rule
       (next m.starts starts ended))))

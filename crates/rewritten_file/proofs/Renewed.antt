@@ -1,11 +1,10 @@
 -- The case that a right plan makes: it is valid, its nodes are triples of bytes, and they are the old ones renamed, with those put in between.
 -- By the laws of rewriting; the nodes by their places in the list; bytes because a valid case is written in bytes, and reading gives it back.
-use Prim.Native.Nat.{ℕ, zero, suc, ◌+◌, ◌-◌, ◌*◌, ◌/◌, ◌≤◌, ◌<◌}
-use mathlib.Core.List.{List, [], ◌∷◌}
+use Prim.Native.Nat.{ℕ, suc, ◌+◌, ◌-◌, ◌*◌, ◌/◌, ◌≤◌, ◌<◌}
+use mathlib.Core.List.{List}
 use mathlib.Core.Path.{◌≡◌, refl, sym, ap, ◌∙◌, subst}
 use native.Mathlib.Omega.{arith}
-use lib.ListN.{length, get_or}
-use lib.Seq.{get_or-take, length-take-le}
+use lib.ListN.{length}
 use Rattle.case_model.specs.Limits.{standard}
 use Rattle.case_model.specs.Bytes.{byte_at, size, section}
 use Rattle.case_model.specs.Case.{Case, triple_at, read, write, at}
@@ -22,31 +21,22 @@ use Rattle.case_model.proofs.NineLaws.{Brings, the_fit, brings}
 use Rattle.case_model.proofs.Rewritten.{rewritten_valid}
 use Rattle.case_reader.specs.Read.{triple}
 use Rattle.case_reader.specs.declared.parts.Triple as code
-use Rattle.law_shapes.specs.Shapes.{placed, named}
+use Rattle.law_shapes.specs.Shapes.{placed, added, named}
 use Rattle.rewritten_file.specs.Plans.{ByteTriple, renewed, Planned}
 use Rattle.law_shapes.specs.declared.shapes.Shape.{Shape}
+use Rattle.law_shapes.specs.declared.shapes.Shape.TheVariants as shape
 use Rattle.rewritten_file.specs.declared.plan.Plan.{Plan}
 
 -- ---- the nodes put in
--- the third of three
-pub third : {A : Type 0} (x y z d : A) (k : ℕ) → k < 3 → (k ≡ 0 → ⊥) → (k ≡ 1 → ⊥) → z ≡ get_or (x ∷ y ∷ z ∷ []) k d
-third x y z d zero h p q = absurd (p refl)
-third x y z d (suc zero) h p q = absurd (q refl)
-third x y z d (suc (suc zero)) h p q = refl
-third x y z d (suc (suc (suc k))) h p q = absurd (omega arith)
+placed-length : (s : Shape) → length (placed s) ≡ suc (added s)
+placed-length (shape.Redirect n to) = refl
+placed-length (shape.One x) = refl
+placed-length (shape.Two x y) = refl
+placed-length (shape.Three x y z) = refl
 
-abbrev pub three : Shape → List Triple
-three s = triple s.first ∷ triple s.second ∷ triple s.third ∷ []
-
-placed-length : (s : Shape) → s.added ≤ 2 → length (placed s) ≡ suc s.added
-placed-length s h = length-take-le (suc s.added) (three s) (omega arith)
-
-pub placed_at : (s : Shape) (i : ℕ) → i ≤ s.added → at (three s) i ≡ at (placed s) i
-placed_at s i h = sym (get_or-take (suc s.added) (three s) i (0, 0, 0) (omega arith))
-
-pub placed_nodes : (c : Case) (j : ℕ) (s : Shape) → s.added ≤ 2 → (g : ℕ → ℕ) → j < length c.nodes
-    → length (rewrite c j (swap (placed s) g)).nodes ≡ length c.nodes + s.added
-placed_nodes c j s h g w = omega (arith, placed-length s h, length_new c j (placed s) g w)
+pub placed_nodes : (c : Case) (j : ℕ) (s : Shape) → (g : ℕ → ℕ) → j < length c.nodes
+    → length (rewrite c j (swap (placed s) g)).nodes ≡ length c.nodes + added s
+placed_nodes c j s g w = omega (arith, placed-length s, length_new c j (placed s) g w)
 
 -- ---- what is read from bytes
 node_small : (f : List ℕ) → ((i : ℕ) → byte_at f i < 256) → (i : ℕ) → i < length (read f).nodes
@@ -90,14 +80,14 @@ module _ {f : List ℕ} {p : Plan} (h : Planned f p) where
   pub node_low : (i : ℕ) → i < p.j → at (renewed f p).nodes i ≡ renamed (named p.j p.shape) (at (read f).nodes i)
   node_low = new_low (read f) p.j (placed p.shape) (named p.j p.shape) fit.within
 
-  pub node_placed : (i : ℕ) → p.j ≤ i → i ≤ p.j + p.shape.added → at (renewed f p).nodes i ≡ at (placed p.shape) (i - p.j)
+  pub node_placed : (i : ℕ) → p.j ≤ i → i ≤ p.j + added p.shape → at (renewed f p).nodes i ≡ at (placed p.shape) (i - p.j)
   node_placed i l k =
       ap (at (renewed f p).nodes) (omega arith)
-      ∙ new_mid (read f) p.j (placed p.shape) (named p.j p.shape) fit.within (i - p.j) (omega (arith, placed-length p.shape h.added))
+      ∙ new_mid (read f) p.j (placed p.shape) (named p.j p.shape) fit.within (i - p.j) (omega (arith, placed-length p.shape))
 
-  pub node_high : (i : ℕ) → p.j + p.shape.added < i
-      → at (renewed f p).nodes i ≡ renamed (named p.j p.shape) (at (read f).nodes (i - p.shape.added))
+  pub node_high : (i : ℕ) → p.j + added p.shape < i
+      → at (renewed f p).nodes i ≡ renamed (named p.j p.shape) (at (read f).nodes (i - added p.shape))
   node_high i k =
-      let n = placed-length p.shape h.added in
+      let n = placed-length p.shape in
       ap (at (renewed f p).nodes) (omega arith)
-      ∙ new_high (read f) p.j (placed p.shape) (named p.j p.shape) fit.within (i - p.shape.added) (omega arith)
+      ∙ new_high (read f) p.j (placed p.shape) (named p.j p.shape) fit.within (i - added p.shape) (omega arith)

@@ -3,4 +3,4 @@
 
 mod plan;
 
-pub use plan::{Plan, Sizes, new_sizes, write_new};
+pub use plan::Plan;

@@ -10,20 +10,20 @@ use Rattle.regular_profile.proofs.profile.node_suits.Goals as goal
 pub returns-in-Atom : goal.returns-in-Atom
 returns-in-Atom c =
     let x = c.node-x in
-    c.is_tau.ensures ∙ atom_suits (triple x.result) x.ensures.is c.kind_of-kind.ensures _ c.in-Atom.is
+    c.is_tau.ensures ∙ atom_suits (triple x.result) x.ensures.is c.kind_of.ensures _ c.in-Atom.is
 
 pub returns-in-Variable : goal.returns-in-Variable
 unfolding either regular
 returns-in-Variable c =
     let x = c.node-x in
-    found-suits (triple x.result) x.ensures.is c.kind_of-kind.ensures _ c.in-Variable.is
+    found-suits (triple x.result) x.ensures.is c.kind_of.ensures _ c.in-Variable.is
 
 pub returns-in-Two : goal.returns-in-Two
 returns-in-Two c =
     let x = c.node-x in
-    rw c.sides_suit.ensures (sides_suit (triple x.result) x.ensures.is c.kind_of-kind.ensures _ c.in-Two.is)
+    rw c.sides_suit.ensures (sides_suit (triple x.result) x.ensures.is c.kind_of.ensures _ c.in-Two.is)
 
 pub returns-in-Binder : goal.returns-in-Binder
 returns-in-Binder c =
     let x = c.node-x in
-    ap not c.modal_at.ensures ∙ found-suits (triple x.result) x.ensures.is c.kind_of-kind.ensures _ c.in-Binder.is
+    ap not c.modal_at.ensures ∙ found-suits (triple x.result) x.ensures.is c.kind_of.ensures _ c.in-Binder.is

@@ -1,22 +1,31 @@
 -- `rewritten_file::plan::put_section` meets its contract: the part of the file that begins where the section does and is as long.
-use mathlib.Core.Path.{ap₂, ◌∙◌}
+use Prim.Native.Nat.{◌+◌, ◌-◌}
 use native.Mathlib.Omega.{arith}
-use Rattle.case_model.specs.Bytes.{offset}
-use Rattle.case_model.proofs.Laying.{laid_as}
+use Rattle.case_model.specs.Bytes.{offset, size}
 use Rattle.case_reader.proofs.Readers.{there}
-use Rattle.case_writer.specs.Parts.{part}
-use Rattle.rewritten_file.proofs.NewFile.{section_bytes, section_within}
+use Rattle.case_model.specs.Limits.{standard}
+use Rattle.case_model.proofs.Sections.{within}
+use Rattle.case_model.proofs.Valid.{accepted_pairs}
+use Rattle.rewritten_file.proofs.NewFile.{section_slice}
 use Rattle.rewritten_file.proofs.plan.put_section.Goals as goal
 
-pub put_part-requires : goal.put_part-requires
-put_part-requires c =
-    let a = c.args in
-    let pre = c.requires in
-    -- the part begins where its own section does
-    let o = there c.requires.1 (offset c.args.file.now c.args.k) c.section_offset-start.ensures.is in
-    (omega (arith, section_within a.file.now pre.0 a.k pre.1, pre.2), omega (arith, pre.3))
+pub slice_bounds-part-end : goal.slice_bounds-part-end
+slice_bounds-part-end c =
+    let f = c.args.file.now in
+    let o = there c.requires.1 (offset f c.args.k) c.section_offset-start.ensures.is in
+    let n = there c.requires.1 (size f c.args.k) c.section_size.ensures.is in
+    omega (arith, within standard f (accepted_pairs standard f c.requires.0) c.args.k c.requires.1)
+
+pub part-requires : goal.part-requires
+part-requires c =
+    let f = c.args.file.now in
+    let o = there c.requires.1 (offset f c.args.k) c.section_offset-start.ensures.is in
+    let n = there c.requires.1 (size f c.args.k) c.section_size.ensures.is in
+    rw (section_slice f c.requires.0 c.args.k c.requires.1 c.section_offset-start.result (c.section_offset-start.result + c.section_size.result - c.section_offset-start.result) o (omega (arith, n))) c.requires.2
 
 pub returns : goal.returns
 returns c =
     let f = c.args.file.now in
-    laid_as (ap₂ (part f) (there c.requires.1 (offset c.args.file.now c.args.k) c.section_offset-start.ensures.is) c.requires.2 ∙ section_bytes f c.args.k) c.put_part.ensures.laid
+    let o = there c.requires.1 (offset f c.args.k) c.section_offset-start.ensures.is in
+    let n = there c.requires.1 (size f c.args.k) c.section_size.ensures.is in
+    rw (section_slice f c.requires.0 c.args.k c.requires.1 c.section_offset-start.result (c.section_offset-start.result + c.section_size.result - c.section_offset-start.result) o (omega (arith, n))) at c.part.ensures

@@ -1,0 +1,19 @@
+-- `bisimilarity::graph::Graph::refined` meets its contract: each state below the count has its row.
+use borrow.Author.Rules.{rules}
+use Prim.Native.Nat.{◌<◌}
+use mathlib.Core.Path.{◌≡◌}
+use native.Mathlib.Omega.{arith}
+use Rattle.flc.specs.Sets.{set_of}
+use Rattle.bisimilarity.specs.Graphs.{table_of}
+use Rattle.bisimilarity.specs.Relations.{kept, related}
+use Rattle.bisimilarity.proofs.Made.{made}
+use Rattle.bisimilarity.proofs.graph.Graph.refined.Goals as goal
+
+pub returns : goal.returns
+returns c =
+    let a = c.args in
+    let n = a.self.now.states in
+    let L = table_of a.self.now in
+    record {
+      row = λ s h. made (λ x y. x < n → y ≡ set_of n (kept L (related a.rows.now) x)) (λ x y q k. search rules) _ 16 0 c.from_fn.ensures.items.each s (omega arith) (omega (arith, h, a.self.now.few)) h;
+    }
