@@ -11,7 +11,7 @@ use lib.ListN.{length}
 use lib.Pow.{pow-lt}
 use Rattle.std.specs.Prelude.{Option, Some, None}
 use Rattle.flc.specs.Nodes.{bind}
-use Rattle.case_model.specs.Limits.{variables, most_nodes}
+use Rattle.case_model.specs.Limits.{variables}
 use Rattle.case_model.specs.Kinds.{Triple}
 use Rattle.case_model.specs.Case.{read, table}
 use Rattle.case_model.proofs.Nodes.{fits_bind}
@@ -30,7 +30,7 @@ use Rattle.regular_model.proofs.SetBytes.{held_lt, stored_placed}
 use Rattle.regular_sets.specs.Views.{frame, Advanced}
 use Rattle.regular_sets.proofs.Made.{stored_as}
 use Rattle.regular_engine.specs.Computing.{moved, begins, Refreshable, RefreshedBy, Computable, ComputedBy, Iterable}
-use Rattle.regular_engine.proofs.Stepping.{framed, Stated, few_sets, node_small, block_room}
+use Rattle.regular_engine.proofs.Stepping.{framed, Stated, few_sets, block_room}
 
 -- the number of a binder's direction
 abbrev pub way : Bool → ℕ
@@ -81,9 +81,6 @@ module _ {f : List ℕ} {p : Plan} where
 
     binds : nodes_of p j ≡ bind least v b
     binds = S.iterable.binds
-
-    pub begun_low : (x.2 < j) × (j < most_nodes)
-    begun_low = ((operands_low S.iterable S.node).1, node_small C.area)
 
     abbrev old : ℕ
     old = held_at w (64 * j)

@@ -1,4 +1,4 @@
-// The sets of all nodes, by recursion over nodes with the number falling; those of binders by iterates.
+// The sets of all nodes, by recursion over nodes with the number falling, as clause 11.5 has it; those of binders by iterates.
 ghost use Rattle.case_plan.specs.Plans.{decoded};
 ghost use Rattle.regular_engine.specs.Computing.{Refreshable, RefreshedBy, Computable, ComputedBy, Iterable};
 

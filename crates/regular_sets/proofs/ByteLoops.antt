@@ -25,13 +25,6 @@ pub bits_none : (x i : ℕ) → 0 ≡ bits_from x i 8
 unfolding set_of
 bits_none x i = refl
 
-pub bits_low : (x i t y : ℕ) → 0 < t → y ≡ bits_from x i t → y < 128
-bits_low x i t y h e = omega (arith, set_of_lt (8 - t) (λ u. has x (8 * i + (t + u))), pow_mono {i = 8 - t} {j = 7} (omega arith))
-
--- there is room for one more
-pub bits_room : (x i t y b : ℕ) → 0 < t → y ≡ bits_from x i t → b ≡ bit (has x (8 * i + (t - 1))) → 2 * y + b ≤ 255
-bits_room x i t y b h e q = omega (arith, bits_low x i t y h e, bit_le (has x (8 * i + (t - 1))))
-
 -- a bit as the code has it
 pub bit_is : (b : Bool) → bool_byte b ≡ bit b
 bit_is true = refl
