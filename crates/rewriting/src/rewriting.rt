@@ -1,51 +1,50 @@
 // Rewriting: a law at a node, if its shape is there, and the new case file.
-ghost use Rattle.case_model.specs.Limits.{standard};
-ghost use Rattle.case_model.specs.Replies.{Accepted};
 ghost use Rattle.case_model.specs.Book.{rewrites};
 ghost use Rattle.case_model.specs.Run.{Promised};
-ghost use Rattle.case_file.specs.EnumNumbers.{case_counts, written_reply};
+ghost use Rattle.case_file.specs.EnumNumbers.{written_reply};
 
-use case_file::{Case, Checked, Reason, Written, refused};
+use case_file::{Case, Reason, Refusal};
 use law_shapes::shape_at;
-use rewritten_file::{Plan, new_sizes, write_new};
+use rewritten_file::Plan;
 
-// Rewrites an accepted file, whose case this is.
-fn rewrite_accepted(file: &[u8], case: Case, law: usize, node: usize, out: &mut [u8]) -> Written
-    requires { Accepted standard file.now (case_counts case) }
-    ensures { Promised file.now (record {
+// Rewrites an accepted case.
+fn rewrite_accepted(case: Case, law: usize, node: usize, out: &mut [u8]) -> Result<usize, Refusal>
+    ensures { Promised case.entry.file.now (record {
       asked = rewrites law node;
       before = out.old;
       after = out.new;
       told = written_reply result;
     }) }
 {
+    let file = case.file();
     let m = case.nodes();
     if m <= node {
-        return refused(Reason::Shape);
+        return Err(Reason::Shape.into());
     }
-    let shape = shape_at(file, law, node);
-    let nodes = m + shape.added;
-    let there = shape.there;
-    if !there {
-        return refused(Reason::Shape);
-    }
+    let Some(shape) = shape_at(file, law, node) else {
+        return Err(Reason::Shape.into());
+    };
+    let nodes = m + shape.added();
     if Case::NODES < nodes {
-        return refused(Reason::TooManyNodes);
+        return Err(Reason::TooManyNodes.into());
     }
     let plan = Plan {
         shape,
         j: node,
         nodes,
     };
-    let sizes = new_sizes(file, plan);
-    if out.len() < sizes.whole {
-        return refused(Reason::Room);
+    let sizes = plan.sizes(file);
+    let all = sizes.whole();
+    if out.len() < all {
+        return Err(Reason::Room.into());
     }
-    Written::Bytes(write_new(file, plan, sizes, out))
+    plan.write(file, sizes, out);
+    Ok(all)
 }
 
 // Rewrites node `node` by law `law`, and writes the new case.
-pub fn rewrite(file: &[u8], law: usize, node: usize, out: &mut [u8]) -> Written
+#[tactic(auto, using(case_model::proofs::Replying::refused_too), unfolding(case_model::specs::Rewriting::rewriting))]
+pub fn rewrite(file: &[u8], law: usize, node: usize, out: &mut [u8]) -> Result<usize, Refusal>
     ensures { Promised file.now (record {
       asked = rewrites law node;
       before = out.old;
@@ -53,9 +52,5 @@ pub fn rewrite(file: &[u8], law: usize, node: usize, out: &mut [u8]) -> Written
       told = written_reply result;
     }) }
 {
-    let checked = Case::new(file);
-    let Checked::Case(case) = checked else {
-        return Written::Refused(checked.refusal());
-    };
-    rewrite_accepted(file, case, law, node, out)
+    rewrite_accepted(Case::new(file)?, law, node, out)
 }

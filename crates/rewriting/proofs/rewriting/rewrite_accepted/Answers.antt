@@ -1,76 +1,90 @@
 -- `rewriting::rewriting::rewrite_accepted` meets its contract: 11, 12 or 13, or the new file.
-use Prim.Native.Nat.{ℕ}
-use mathlib.Core.List.{List}
-use mathlib.Core.Path.{◌≡◌, refl, ap, ◌∙◌}
-use native.Mathlib.Nat.{zero-add}
+use Prim.Native.Nat.{ℕ, ◌+◌}
+use mathlib.Core.Path.{refl, ap, ◌∙◌}
 use native.Mathlib.Omega.{arith}
 use lib.ListN.{length}
-use Rattle.case_model.specs.Limits.{standard}
-use Rattle.case_model.specs.Replies.{Counts, Accepted, answers}
+use Rattle.case_file.proofs.Refusals.{of_reason}
 use Rattle.case_model.proofs.Laying.{laid_whole}
-use Rattle.rewriting.proofs.Outcomes.{nodes_few, planned}
-use Rattle.rewriting.proofs.Outcomes.{rewriting_beyond, rewriting_nowhere, rewriting_many, rewriting_short, rewriting-fits}
+use Rattle.case_model.specs.Replies.{answers}
+use Rattle.rewritten_file.proofs.NewFile.{new_short}
+use Rattle.rewriting.proofs.Outcomes.{nodes_few, planned, brought, count, rewriting_beyond, rewriting_nowhere, rewriting_many, rewriting_short, rewriting-fits}
 use Rattle.rewriting.proofs.rewriting.rewrite_accepted.Goals as goal
-
--- the accepted file, with the nodes as the case tells them
-at_nodes : {f : List ℕ} {n : Counts} {m : ℕ} → Accepted standard f n → m ≡ n.nodes → Accepted standard f (record { states = n.states; nodes = m })
-at_nodes A e = record { rows = A.rows; states = A.states; nodes = e ∙ A.nodes }
 
 pub returns-then-m-node : goal.returns-then-m-node
 returns-then-m-node c =
     let a = c.args in
-    let e = rewriting_beyond (at_nodes c.requires c.nodes-m.ensures) a.law a.node c.if-m-node.true (length a.out.now) in
-    record { says = rw (e, c.refused.ensures); leaves = rw e }
+    let e = rewriting_beyond a.case.accepted a.law a.node (omega arith) (length a.out.now) in
+    record { says = rw (e, of_reason {A = ℕ} c.into.result c.into.ensures); leaves = rw e }
 
-pub shape_at-shape-requires : goal.shape_at-shape-requires
-shape_at-shape-requires c = omega (arith, nodes_few (at_nodes c.requires c.nodes-m.ensures))
+pub shape_at-requires : goal.shape_at-requires
+shape_at-requires c = omega (arith, nodes_few c.args.case.accepted, c.nodes-m.ensures)
+
+pub returns-in_default : goal.returns-in_default
+returns-in_default c =
+    let a = c.args in
+    let does = rw c.file-file.ensures at c.shape_at.ensures in
+    let e = rewriting_nowhere a.case.accepted a.law a.node (omega arith) does c.in_default.is (length a.out.now) in
+    record { says = rw (e, of_reason {A = ℕ} c.into-in_default.result c.into-in_default.ensures); leaves = rw e }
 
 pub overflow_add-nodes : goal.overflow_add-nodes
-overflow_add-nodes c =
-    omega (arith, nodes_few (at_nodes c.requires c.nodes-m.ensures), c.shape_at-shape.ensures.few)
-
-pub returns-then-not-there : goal.returns-then-not-there
-returns-then-not-there c =
-    let a = c.args in
-    let e = rewriting_nowhere (at_nodes c.requires c.nodes-m.ensures) a.law a.node c.if-m-node.false _
-    c.shape_at-shape.ensures c.if-not-there.true (length a.out.now) in
-    record { says = rw (e, c.refused-then-not-there.ensures); leaves = rw e }
+overflow_add-nodes c = omega (arith, nodes_few c.args.case.accepted, c.nodes-m.ensures)
 
 pub returns-then-nodes-gt-NODES : goal.returns-then-nodes-gt-NODES
 returns-then-nodes-gt-NODES c =
     let a = c.args in
-    let e = rewriting_many (at_nodes c.requires c.nodes-m.ensures) a.law a.node c.if-m-node.false _
-    c.shape_at-shape.ensures c.if-not-there.false c.if-nodes-gt-NODES.true (length a.out.now) in
-    record { says = rw (e, c.refused-then-nodes-gt-NODES.ensures) refl; leaves = rw e }
+    let does = rw c.file-file.ensures at c.shape_at.ensures in
+    let e = rewriting_many a.case.accepted a.law a.node (omega arith) does c.in-Some.shape c.in-Some.is (omega (arith, c.added.ensures)) (length a.out.now) in
+    record { says = rw (e, of_reason {A = ℕ} c.into-then-nodes-gt-NODES.result c.into-then-nodes-gt-NODES.ensures) refl; leaves = rw e }
 
 -- the plan is right, once the shape is there and the nodes are few enough
-pub new_sizes-sizes-requires : goal.new_sizes-sizes-requires
-new_sizes-sizes-requires c =
+pub sizes-sizes-requires : goal.sizes-sizes-requires
+sizes-sizes-requires c =
     let a = c.args in
-    planned (at_nodes c.requires c.nodes-m.ensures) a.law a.node c.if-m-node.false _ c.shape_at-shape.ensures c.if-not-there.false
-    (λ i. omega (arith, c.type_inv.file i)) (omega arith)
+    let does = rw c.file-file.ensures at c.shape_at.ensures in
+    let p = planned a.case.accepted a.law a.node (omega arith) does c.in-Some.shape c.in-Some.is (λ i. omega (arith, (rw c.file-file.ensures at c.type_inv.file) i))
+    (c.nodes-m.result + c.added.result) (omega (arith, c.added.ensures)) (omega arith) in
+    rw c.file-file.ensures p
 
-pub returns-then-out-sizes : goal.returns-then-out-sizes
-returns-then-out-sizes c =
+pub whole-all-requires : goal.whole-all-requires
+whole-all-requires c =
     let a = c.args in
-    let plan = planned (at_nodes c.requires c.nodes-m.ensures) a.law a.node c.if-m-node.false _ c.shape_at-shape.ensures c.if-not-there.false
-    (λ i. omega (arith, c.type_inv.file i)) (omega arith) in
-    let e = rewriting_short plan (length a.out.now) (omega (arith, c.if-out-sizes.true, c.new_sizes-sizes.ensures.whole)) in
-    record { says = rw (e, c.refused-then-out-sizes.ensures); leaves = rw e }
+    let does = rw c.file-file.ensures at c.shape_at.ensures in
+    let p = planned a.case.accepted a.law a.node (omega arith) does c.in-Some.shape c.in-Some.is (λ i. omega (arith, (rw c.file-file.ensures at c.type_inv.file) i))
+    (c.nodes-m.result + c.added.result) (omega (arith, c.added.ensures)) (omega arith) in
+    let z = rw c.file-file.ensures at c.sizes-sizes.ensures in
+    omega (arith, z.all, new_short p)
 
-pub write_new-requires : goal.write_new-requires
-write_new-requires c =
+pub returns-then-out-all : goal.returns-then-out-all
+returns-then-out-all c =
     let a = c.args in
-    let plan = planned (at_nodes c.requires c.nodes-m.ensures) a.law a.node c.if-m-node.false _ c.shape_at-shape.ensures c.if-not-there.false
-    (λ i. omega (arith, c.type_inv.file i)) (omega arith) in
-    (plan, c.new_sizes-sizes.ensures, omega (arith, c.if-out-sizes.false))
+    let does = rw c.file-file.ensures at c.shape_at.ensures in
+    let m = c.nodes-m.result + c.added.result in
+    let is = brought a.case.accepted a.law a.node (omega arith) does c.in-Some.shape c.in-Some.is in
+    let n = count a.case.accepted a.law a.node (omega arith) does c.in-Some.shape c.in-Some.is in
+    let z = rw c.file-file.ensures at c.sizes-sizes.ensures in
+    let e =
+    rewriting_short a.case.file.now (record { shape = c.in-Some.shape; j = a.node; nodes = m }) a.case.accepted.rows a.law is (omega (arith, n, c.added.ensures)) (omega arith) (length a.out.now)
+    (omega (arith, c.if-out-all.true, c.whole-all.ensures, z.all)) in
+    record { says = rw (e, of_reason {A = ℕ} c.into-then-out-all.result c.into-then-out-all.ensures); leaves = rw e }
+
+pub write-requires : goal.write-requires
+write-requires c =
+    let a = c.args in
+    let does = rw c.file-file.ensures at c.shape_at.ensures in
+    let p = planned a.case.accepted a.law a.node (omega arith) does c.in-Some.shape c.in-Some.is (λ i. omega (arith, (rw c.file-file.ensures at c.type_inv.file) i))
+    (c.nodes-m.result + c.added.result) (omega (arith, c.added.ensures)) (omega arith) in
+    (rw c.file-file.ensures p, c.sizes-sizes.ensures, omega (arith, c.whole-all.ensures, c.if-out-all.false))
 
 pub returns : goal.returns
 returns c =
     let a = c.args in
-    let new = c.write_new.ensures in
-    let size = c.new_sizes-sizes.ensures.whole in
-    let plan = planned (at_nodes c.requires c.nodes-m.ensures) a.law a.node c.if-m-node.false _ c.shape_at-shape.ensures c.if-not-there.false
-    (λ i. omega (arith, c.type_inv.file i)) (omega arith) in
-    let e = rewriting-fits plan (length a.out.now) (omega (arith, c.if-out-sizes.false, size)) in
-    record { says = rw e (ap answers (new.ends ∙ zero-add _)); leaves = rw e (laid_whole new (omega (arith, c.if-out-sizes.false, size, new.ends))) }
+    let does = rw c.file-file.ensures at c.shape_at.ensures in
+    let m = c.nodes-m.result + c.added.result in
+    let is = brought a.case.accepted a.law a.node (omega arith) does c.in-Some.shape c.in-Some.is in
+    let n = count a.case.accepted a.law a.node (omega arith) does c.in-Some.shape c.in-Some.is in
+    let z = rw c.file-file.ensures at c.sizes-sizes.ensures in
+    let new = rw c.file-file.ensures at c.write.ensures in
+    let e =
+    rewriting-fits a.case.file.now (record { shape = c.in-Some.shape; j = a.node; nodes = m }) a.case.accepted.rows a.law is (omega (arith, n, c.added.ensures)) (omega arith) (length a.out.now)
+    (omega (arith, c.if-out-all.false, c.whole-all.ensures, z.all)) in
+    record { says = rw e (ap answers (c.whole-all.ensures ∙ z.all)); leaves = rw e (laid_whole new (omega (arith, c.if-out-all.false, c.whole-all.ensures, z.all))) }
