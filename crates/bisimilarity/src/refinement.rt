@@ -1,6 +1,6 @@
 // Which states are alike, by refinement: pairs with unequal labels are left out, then pairs with a step that is not met, until none is.
 // A relation is a row for each state s, the set of the states related to s.
-ghost use Rattle.std.specs.Prelude.{◌≡◌, ◌^◌, ◌≤◌, ◌<◌};
+ghost use Rattle.std.specs.Prelude.{◌≡◌, cond, ◌+◌, ◌^◌, ◌≤◌, ◌<◌};
 ghost use Rattle.flc.specs.Sets.{has, implies, set_of};
 ghost use Rattle.flc.specs.Bisimulation.{met, bisimilar};
 ghost use Rattle.case_model.specs.Limits.{most_states};
@@ -8,10 +8,17 @@ ghost use Rattle.bisimilarity.specs.Graphs.{table_of};
 ghost use Rattle.bisimilarity.specs.Relations.{related, Rows, meets, kept, same_label};
 
 use crate::graph::Graph;
-use crate::masks::extended;
 use case_file::Case;
 use case_reader::has;
 use std::array;
+
+// A set of states below t, with t too if it passed.
+fn extended(x: u16, t: usize, passed: bool) -> u16
+    requires { (x < 2 ^ t) × (t < most_states) }
+    ensures { result ≡ x + cond passed (2 ^ t) 0 }
+{
+    if passed { x + (1u16 << t) } else { x }
+}
 
 // Is each state of the set `from` related to one of the set `to`? Steps by an action that is not looked at need not be met.
 fn met_by(looked: bool, n: usize, rows: &[u16; 16], from: u16, to: u16) -> bool
