@@ -1,4 +1,4 @@
-// The tables of all nodes, by recursion over nodes with the number falling; those of binders by approximants.
+// The tables of all nodes, by recursion over nodes with the number falling (docs/SPECIFICATION.md, clause 11.5); those of binders by approximants.
 ghost use Rattle.std.specs.Prelude.{◌≡◌, ◌+◌};
 ghost use Rattle.case_plan.specs.Plans.{decoded};
 ghost use Rattle.engine.specs.Computing.{Refreshable, Refreshed, Computable, Computed, Roundable, Rounded, Iterable, Iterated};
