@@ -1,12 +1,14 @@
 // The nine laws: what each puts in place of a node, and what becomes of the numbers that name nodes.
-ghost use Rattle.std.specs.Prelude.{◌≡◌, ◌≤◌, ◌<◌, ◌∷◌, get_or};
+ghost use Rattle.std.specs.Prelude.{◌≡◌, ◌≤◌, ◌<◌, ◌∷◌, get_or, eqb, leb};
 ghost use Rattle.case_model.specs.Case.{read};
 ghost use Rattle.case_model.specs.Limits.{most_nodes};
 ghost use Rattle.case_model.specs.Rewriting.{nothing, laws_at, change};
+ghost use Rattle.case_model.specs.Kinds.{kind_of, kind_of_tau, last_constant};
+ghost use Rattle.case_reader.specs.NodeKinds.{op_of};
 ghost use Rattle.case_reader.specs.Read.{triple};
 ghost use Rattle.law_shapes.specs.Shapes.{added, Does};
 
-use case_reader::{Kind, Triple, node};
+use case_reader::{Atom, Kind, Operator, Triple, node};
 
 // What a law does at node j.
 #[derive(Clone, Copy, PartialEq, Eq)]
@@ -32,13 +34,37 @@ impl Shape {
     }
 }
 
-// Law `law`, if it is one, at node j, which is n and names x first and y second.
+// Is the node of this operator?
+fn is(t: Triple, operator: Operator) -> bool
+    ensures { result ≡ eqb t.0 (kind_of (op_of operator)) }
+{
+    t.0 == usize::from(operator)
+}
+
+fn is_tau(t: Triple) -> bool
+    ensures { result ≡ eqb t.0 kind_of_tau }
+{
+    matches!(Kind::try_from(t.0), Ok(Kind::Atom(Atom::Tau)))
+}
+
+// Is the node a constant, q of the laws?
+fn is_constant(t: Triple) -> bool
+    ensures { result ≡ leb t.0 last_constant }
+{
+    matches!(
+        Kind::try_from(t.0),
+        Ok(Kind::Atom(Atom::Top | Atom::Bottom | Atom::Proposition | Atom::Complement)),
+    )
+}
+
+// Law `law`, if it is one, at node j, which is n and names x first and y second. A number, and no enum: the laws have numbers in the specification and for
+// C, and this is their one table.
 fn shape_of(law: usize, j: usize, n: Triple, x: Triple, y: Triple) -> Option<Shape>
     requires { j < most_nodes }
     ensures { Does j result (get_or (nothing ∷ laws_at j (triple n) (triple x) (triple y)) law nothing) }
 {
-    let chop = n.0 == Kind::CHOP;
-    let pair = (n.0 == Kind::OR) | (n.0 == Kind::AND);
+    let chop = is(n, Operator::Chop);
+    let pair = is(n, Operator::Or) | is(n, Operator::And);
     let first = Shape::Redirect { node: n, to: n.1 };
     let second = Shape::Redirect { node: n, to: n.2 };
     let left = Triple(Kind::CHOP, x.1, n.2);
@@ -46,16 +72,19 @@ fn shape_of(law: usize, j: usize, n: Triple, x: Triple, y: Triple) -> Option<Sha
     let either = Triple(Kind::OR, j, j + 1);
     let both = Triple(Kind::AND, j, j + 1);
     match law {
-        1 => (chop & (x.0 == Kind::TAU)).then_some(second),
-        2 => (chop & (y.0 == Kind::TAU)).then_some(first),
-        3 => (chop & (x.0 <= Kind::LAST_CONSTANT)).then_some(first),
-        4 => (chop & (x.0 == Kind::CHOP)).then_some(Shape::Two(right, Triple(Kind::CHOP, x.1, j))),
-        5 => (chop & (y.0 == Kind::CHOP)).then_some(Shape::Two(
+        1 => (chop & is_tau(x)).then_some(second),
+        2 => (chop & is_tau(y)).then_some(first),
+        3 => (chop & is_constant(x)).then_some(first),
+        4 => (chop & is(x, Operator::Chop)).then_some(Shape::Two(
+            right,
+            Triple(Kind::CHOP, x.1, j),
+        )),
+        5 => (chop & is(y, Operator::Chop)).then_some(Shape::Two(
             Triple(Kind::CHOP, n.1, y.1),
             Triple(Kind::CHOP, j, y.2),
         )),
-        6 => (chop & (x.0 == Kind::OR)).then_some(Shape::Three(left, right, either)),
-        7 => (chop & (x.0 == Kind::AND)).then_some(Shape::Three(left, right, both)),
+        6 => (chop & is(x, Operator::Or)).then_some(Shape::Three(left, right, either)),
+        7 => (chop & is(x, Operator::And)).then_some(Shape::Three(left, right, both)),
         8 => (pair & (n.1 == n.2)).then_some(first),
         9 => pair.then_some(Shape::One(Triple(n.0, n.2, n.1))),
         _ => None,
