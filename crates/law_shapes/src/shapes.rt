@@ -66,7 +66,8 @@ fn two(operator: Operator, a: usize, b: usize) -> Triple
     Triple(usize::from(operator), a, b)
 }
 
-// Law `law`, if it is one, at node j, which is n and names x first and y second. A law's number is its name, here as at the C boundary.
+// Law `law`, if it is one, at node j, which is n and names x first and y second. A number, and no enum: the laws have numbers in the specification and for
+// C, and this is their one table.
 fn shape_of(law: usize, j: usize, n: Triple, x: Triple, y: Triple) -> Option<Shape>
     requires { j < most_nodes }
     ensures { Does j result (get_or (nothing ∷ laws_at j (triple n) (triple x) (triple y)) law nothing) }
