@@ -44,6 +44,7 @@ fn page_of(file: &[u8], work: &mut [u16]) -> Page
 }
 
 // Reads until the buffer is full or the input ends, and tells how many bytes came.
+// A loop: `read_exact` fails where the input ends first, and `read_to_end` needs the heap.
 fn read_full<R: Read>(input: &mut R, buffer: &mut [u8]) -> Result<usize, Error>
     ensures { IfOk result (λ n. n ≤ length buffer.new) }
 {
