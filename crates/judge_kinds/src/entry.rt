@@ -17,7 +17,12 @@ use permutations::is_permutation;
 const KINDS: usize = 15;
 
 // Of a file that row 1 does not refuse, so that the copy has room for it. Vetting, the plan and the tables read kinds: a copy spares them all the table.
-fn judge_exchanged(kinds: &[u8], file: &[u8], set: u16, work: &mut [u16]) -> Result<Verdict, Refusal>
+fn judge_exchanged(
+    kinds: &[u8],
+    file: &[u8],
+    set: u16,
+    work: &mut [u16],
+) -> Result<Verdict, Refusal>
     requires { pairs_hold standard file.now ≡ true }
     ensures result_value { judged_reply result ≡ judging (exchanged kinds.now file.now) set (length work.old) }
     ensures work_after { work.new ≡ cleared (judging (exchanged kinds.now file.now) set (length work.old)) work.old }
@@ -29,7 +34,12 @@ fn judge_exchanged(kinds: &[u8], file: &[u8], set: u16, work: &mut [u16]) -> Res
 }
 
 // Judging of the file with its kinds exchanged, or refusal 15 of what is no table, before the file is looked at.
-pub fn judge_kinds(kinds: &[u8], file: &[u8], set: u16, work: &mut [u16]) -> Result<Verdict, Refusal>
+pub fn judge_kinds(
+    kinds: &[u8],
+    file: &[u8],
+    set: u16,
+    work: &mut [u16],
+) -> Result<Verdict, Refusal>
     ensures result_value { judged_reply result ≡ judging_kinds kinds.now file.now set (length work.old) }
     ensures work_after { work.new ≡ cleared (judging_kinds kinds.now file.now set (length work.old)) work.old }
 {

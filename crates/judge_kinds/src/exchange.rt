@@ -9,11 +9,11 @@ ghost use Rattle.judge_kinds_model.specs.Exchange.{exchanged_byte, exchanged};
 use case_reader::{node_count, section_offset};
 
 // The kind that a byte stands for.
+#[tactic(auto, unfolding(judge_kinds_model::specs::KindTables::stands_for))]
 fn stands_for(kinds: &[u8], kind: u8) -> u8
     ensures { result ≡ stands_for kinds.now kind }
 {
-    let k = kind as usize;
-    if k < kinds.len() { kinds[k] } else { kind }
+    kinds.get(usize::from(kind)).map_or(kind, |entry| *entry)
 }
 
 // The kinds of the nodes, into an area that has the file at its front.
