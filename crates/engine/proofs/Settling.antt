@@ -39,11 +39,6 @@ use Rattle.engine.proofs.Staying.{right_as_bound, settled_filled, settled_more}
 use Rattle.engine.proofs.Refreshing.{env_same, ready_after, ready_above}
 use Rattle.engine.proofs.Plain.{unfolded}
 
--- ---- the limit
--- with at most 16 states it is far below the largest number
-pub limit_small : {p : Plan} → Sound p → p.limit ≤ 1048576
-limit_small {p} S = omega (arith, S.limit, (size_some S.sized).1, mul-le-mul_right {m = p.states} {n = 16} p.size S.sized.few)
-
 -- where a binder's table begins, by the test of its direction
 pub begins_old : (d : Bool) (grown : Option Direction) → goes_on (direction d) grown ≡ true → (size : ℕ) (old : Fun) (x : ℕ) → begins d grown size old x ≡ old x
 begins_old d grown e size old x = rw e
