@@ -1,23 +1,19 @@
 -- `engine::blocks::Blocks::refresh`, `compute`, `rounds` and `round` meet their contracts. What each step needs stands in Refreshing, Settling, Iterating and
 -- Turns; here the places of the code are tied to it.
-use Prim.Native.Nat.{ℕ, suc, ◌+◌, ◌*◌, ◌≤◌}
-use mathlib.Core.List.{List}
+use Prim.Native.Nat.{suc, ◌+◌}
 use mathlib.Core.Path.{◌≡◌, refl, sym, ap, ◌∙◌, subst}
 use native.Mathlib.Omega.{arith}
 use lib.Bits.{bit_or}
-use lib.ListN.{length}
 use Rattle.std.specs.Prelude.{Some}
-use Rattle.case_plan.specs.Plans.{Plan, decoded}
+use Rattle.case_plan.specs.Plans.{decoded}
 use Rattle.case_plan.proofs.KnownNodes.{known, other_kind}
-use Rattle.tables.proofs.Sizes.{size_some}
 use Rattle.engine.specs.declared.refresh.Binder.{Binder}
-use Rattle.engine.specs.Computing.{Ready, Refreshable, Refreshed, Iterated}
-use Rattle.engine.proofs.Frames.{apart}
+use Rattle.engine.specs.Computing.{Refreshable, Refreshed, Iterated}
 use Rattle.engine.proofs.Refreshing.{refresh_lower, skip_out, skip_old, computable, one_more}
 use Rattle.engine.proofs.Refreshing.{fillable, computed_plain}
 use Rattle.engine.proofs.Turns.{binds_low, binder_here, body_under, round_refreshable, rounded}
 use Rattle.engine.proofs.Iterating.{Turning, turning_start, turning_roundable, turning_next, iterated_still, iterated_most}
-use Rattle.engine.proofs.Settling.{limit_small, iterable, computed_binder}
+use Rattle.engine.proofs.Settling.{iterable, computed_binder}
 use Rattle.engine.proofs.blocks.Blocks.+compute_refresh_round_rounds.Goals as goal
 use Rattle.engine.proofs.blocks.Blocks.+compute_refresh_round_rounds.Goals.{refresh-else-scope-act-via-then-scope-act+else-scope-old}
 use Rattle.engine.proofs.blocks.Blocks.+compute_refresh_round_rounds.Goals.{refresh-else-scope-act-via-else-scope-act}

@@ -2,7 +2,7 @@
 use native.Mathlib.Omega.{arith}
 use Rattle.case_plan.specs.Plans.{decoded}
 use Rattle.engine.proofs.Frames.{apart}
-use Rattle.engine.proofs.Plain.{here, done, operand_fits, atom_done, variable_low, variable_done, two_low, two_sets, no_binder}
+use Rattle.engine.proofs.Plain.{here, done, atom_done, variable_low, variable_done, two_low, two_sets, no_binder}
 use Rattle.engine.proofs.blocks.Blocks.fill.Goals as goal
 
 pub overflow_mul-binder : goal.overflow_mul-binder
