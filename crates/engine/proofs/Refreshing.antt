@@ -188,7 +188,8 @@ no_rounds p j ρ h = go (nodes_of p j) h
     go (two o a b) h = refl
     go (bind d v b) h = absurd (h d v b refl)
 
-module _ {p : Plan} {w : List ℕ} {j act : ℕ} {grown : Option Direction} (C : Computable p w j act grown) (plain : (d : Bool) (v b : ℕ) → nodes_of p j ≡ bind d v b → ⊥) where
+module _ {p : Plan} {w : List ℕ} {j act : ℕ} {grown : Option Direction} (C : Computable p w j act grown)
+    (plain : (d : Bool) (v b : ℕ) → nodes_of p j ≡ bind d v b → ⊥) where
   sound : Sound p
   sound = C.ready.sound
 

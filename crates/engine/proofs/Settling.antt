@@ -1,11 +1,10 @@
 -- A binder from its call to its end: it begins with the old table or with approximant 0, from both of which the iterates of its body rise to the
 -- fixed point; they stand still after n × 2^n rounds at the latest, and where they do they are the fixed point.
-use Prim.Native.Nat.{ℕ, suc, ◌-◌, ◌*◌, ◌^◌, ◌≤◌, ◌<◌}
+use Prim.Native.Nat.{ℕ, suc, ◌-◌, ◌*◌, ◌^◌, ◌<◌}
 use mathlib.Core.Bool.{Bool, true, false, not, cond}
 use mathlib.Core.List.{List}
 use mathlib.Core.Logic.{⊎_elim}
 use mathlib.Core.Path.{◌≡◌, refl, sym, ap, ◌∙◌, subst}
-use native.Mathlib.Nat.{mul-le-mul_right}
 use native.Mathlib.Decide.{ℕ_discrete}
 use native.Mathlib.Omega.{arith}
 use borrow.Author.Tests.{eq-eqb}
@@ -27,7 +26,6 @@ use Rattle.case_plan.specs.declared.moves.Direction.{Direction}
 use Rattle.case_plan.specs.Moves.{direction, goes_on}
 use Rattle.case_plan.specs.Plans.{Plan, table_of, nodes_of, meaning, Sound}
 use Rattle.case_plan.proofs.Directions.{goes_on-same}
-use Rattle.tables.proofs.Sizes.{size_some}
 use Rattle.engine.specs.declared.refresh.Binder.{Binder}
 use Rattle.engine.specs.Blocks.{block, Kept, env, Right, RightAt}
 use Rattle.engine.specs.Dependence.{Only, as_bound, Settled}
@@ -38,11 +36,6 @@ use Rattle.engine.proofs.Depending.{depends_binder, depends_above, depends_up}
 use Rattle.engine.proofs.Staying.{right_as_bound, settled_filled, settled_more}
 use Rattle.engine.proofs.Refreshing.{env_same, ready_after, ready_above}
 use Rattle.engine.proofs.Plain.{unfolded}
-
--- ---- the limit
--- with at most 16 states it is far below the largest number
-pub limit_small : {p : Plan} → Sound p → p.limit ≤ 1048576
-limit_small {p} S = omega (arith, S.limit, (size_some S.sized).1, mul-le-mul_right {m = p.states} {n = 16} p.size S.sized.few)
 
 -- where a binder's table begins, by the test of its direction
 pub begins_old : (d : Bool) (grown : Option Direction) → goes_on (direction d) grown ≡ true → (size : ℕ) (old : Fun) (x : ℕ) → begins d grown size old x ≡ old x

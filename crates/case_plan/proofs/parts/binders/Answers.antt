@@ -24,6 +24,8 @@ pub loop-j-preserved : goal.loop-j-preserved
 loop-j-preserved c =
     let t = triple (get_or c.args.nodes.now c.loop-j.j (0, 0, 0)) in
     elim c.if-is_binder.branch [
-      | then-is_binder w ↦ rw w.binders-is (housed_more c.loop-j.invariant c.requires c.loop-j-test.true t refl (sym c.is_binder.ensures ∙ w.if-is_binder.true))
-      | else-is_binder w ↦ rw w.binders-is (housed_same c.loop-j.invariant c.requires c.loop-j-test.true t refl (sym c.is_binder.ensures ∙ w.if-is_binder.false))
+      | then-is_binder w ↦
+          rw w.binders-is (housed_more c.loop-j.invariant c.requires c.loop-j-test.true t refl (sym c.is_binder.ensures ∙ w.if-is_binder.true))
+      | else-is_binder w ↦
+          rw w.binders-is (housed_same c.loop-j.invariant c.requires c.loop-j-test.true t refl (sym c.is_binder.ensures ∙ w.if-is_binder.false))
     ]

@@ -15,6 +15,9 @@ loop-s-init c = record { long = refl; are = λ k h. zeros 8 k }
 pub loop-i-preserved : goal.loop-i-preserved
 loop-i-preserved c =
     elim c.if-has.branch [
-      | then-has w ↦ rw w.set-items-is (joined_in c.loop-i.invariant (omega arith) c.label-label.ensures.is (omega arith) (sym c.has.ensures ∙ w.if-has.true))
-      | else-has w ↦ rw (w.set-items-is ∙ set-get_or c.loop-i.set-items c.loop-i.i 0) (joined_out c.loop-i.invariant (omega arith) c.label-label.ensures.is (sym c.has.ensures ∙ w.if-has.false))
+      | then-has w ↦
+          rw w.set-items-is (joined_in c.loop-i.invariant (omega arith) c.label-label.ensures.is (omega arith) (sym c.has.ensures ∙ w.if-has.true))
+      | else-has w ↦
+          rw (w.set-items-is ∙ set-get_or c.loop-i.set-items c.loop-i.i 0)
+          (joined_out c.loop-i.invariant (omega arith) c.label-label.ensures.is (sym c.has.ensures ∙ w.if-has.false))
     ]

@@ -35,4 +35,7 @@ laid c w items count e m most long put = record {
 }
 
 pub returns : goal.returns
-returns c = laid _ c.args.nodes.now c.loop-j.node-items c.args.count c.requires.0 c.requires.1 c.requires.2 c.loop-j.invariant.long (λ k h. c.loop-j.invariant.put k (omega (arith, c.loop-j.auto.node-items, c.loop-j.invariant.long)))
+returns c =
+    let I = c.loop-j.invariant in
+    laid _ c.args.nodes.now c.loop-j.node-items c.args.count c.requires.0 c.requires.1 c.requires.2 I.long
+    (λ k h. I.put k (omega (arith, c.loop-j.auto.node-items, I.long)))
