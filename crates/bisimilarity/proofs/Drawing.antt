@@ -3,40 +3,28 @@
 use mathlib.Core.Bool.{Bool, false}
 use mathlib.Core.List.{List}
 use mathlib.Core.Path.{◌≡◌, sym, ap, ◌∙◌}
-use Prim.Native.Nat.{ℕ, ◌+◌, ◌*◌, ◌≤◌, ◌<◌}
+use Prim.Native.Nat.{ℕ, ◌+◌, ◌*◌, ◌<◌}
 use native.Mathlib.Decide.{dec_lt}
 use native.Mathlib.Omega.{arith}
 use borrow.Author.Tests.{lt-ltb, le-ltb}
-use lib.Bits.{bit_and, and_zero_l}
+use lib.Bits.{bit_and}
 use lib.Dec.{ltb}
-use lib.ListN.{length, get_or, replicate, get_or-eq_default}
+use lib.ListN.{length, get_or, get_or-eq_default}
 use lib.Pow.{pow_mono}
 use Rattle.flc.specs.Sets.{both, has, set_of}
 use Rattle.flc.specs.Formula.{actions}
 use Rattle.flc.specs.Vocabulary.{reduct}
 use Rattle.flc.proofs.Masks.{has-set_of, set_of_lt, set_ext, has_empty, has_beyond}
-use Rattle.case_model.specs.Areas.{Filled}
 use Rattle.case_model.specs.Limits.{most_states}
 use Rattle.case_model.specs.Case.{Case, listed, table}
 use Rattle.case_model.specs.Looking.{looked}
 use Rattle.case_model.specs.Valid.{ValidTable}
 use Rattle.case_model.proofs.Tests.{is_false}
-use Rattle.case_model.proofs.Filling.{front_at}
 use Rattle.case_model.proofs.Steps.{listed_in}
 use Rattle.case_reader.specs.StepRows.{relation, StepRows}
 use Rattle.bisimilarity.specs.Graphs.{Drawn}
 use Rattle.bisimilarity.specs.Successors.{Within}
 use Rattle.bisimilarity.specs.declared.graph.Graph.{Graph}
-
--- a table filled with what is looked at of the labels has it all, and 0 past the last
-pub labels_filled : {i : ℕ} {table : List ℕ} (l : List ℕ) (props : ℕ) → Filled (replicate 16 0) table 0 i (λ u. bit_and (get_or l u 0) props) → 16 ≤ i
-    → length l ≤ 16 → (u : ℕ) → get_or table u 0 ≡ bit_and (get_or l u 0) props
-labels_filled {table = table} l props f h few u = elim (dec_lt u 16) [
-  | yes q ↦ front_at f u (omega arith)
-  | no q ↦
-      get_or-eq_default table 0 {n = u} (omega (arith, f.long))
-      ∙ sym (ap (λ x. bit_and x props) (get_or-eq_default l 0 {n = u} (omega arith)) ∙ and_zero_l props)
-]
 
 module _ {c : Case} (valid : ValidTable most_states c) {steps : List ℕ} (rows : StepRows c.steps steps) where
   -- what is out of range is no step

@@ -1,3 +1,4 @@
 pub mod Sets
+pub mod Made
 pub mod Drawing
 pub mod Refining

@@ -9,6 +9,7 @@ ghost use Rattle.bisimilarity.specs.Successors.{Within};
 
 use case_file::Case;
 use case_reader::label;
+use std::array;
 use vocabulary::looked;
 
 // Of at most 16 states, with no step to another number.
@@ -30,11 +31,7 @@ fn labels(file: &[u8], props: usize) -> [usize; 16]
     requires { ValidTable most_states (read file.now) }
     ensures { (s : ℕ) → get_or result s 0 ≡ bit_and (get_or (read file.now).labels s 0) props }
 {
-    let mut table = [0usize; 16];
-    for s in 0..Case::STATES {
-        table[s] = label(file, s) & props;
-    }
-    table
+    array::from_fn(|s| label(file, s) & props)
 }
 
 impl Graph {

@@ -2,8 +2,6 @@
 #![tactic(auto)]
 
 mod graph;
-mod masks;
 mod refinement;
 
 pub use graph::Graph;
-pub use masks::member;

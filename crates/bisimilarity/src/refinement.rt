@@ -1,6 +1,6 @@
 // Which states are alike, by refinement: pairs with unequal labels are left out, then pairs with a step that is not met, until none is.
 // A relation is a row for each state s, the set of the states related to s.
-ghost use Rattle.std.specs.Prelude.{◌≡◌, ◌^◌, ◌≤◌, ◌<◌};
+ghost use Rattle.std.specs.Prelude.{◌≡◌, cond, ◌+◌, ◌^◌, ◌≤◌, ◌<◌};
 ghost use Rattle.flc.specs.Sets.{has, implies, set_of};
 ghost use Rattle.flc.specs.Bisimulation.{met, bisimilar};
 ghost use Rattle.case_model.specs.Limits.{most_states};
@@ -8,9 +8,17 @@ ghost use Rattle.bisimilarity.specs.Graphs.{table_of};
 ghost use Rattle.bisimilarity.specs.Relations.{related, Rows, meets, kept, same_label};
 
 use crate::graph::Graph;
-use crate::masks::extended;
 use case_file::Case;
 use case_reader::has;
+use std::array;
+
+// A set of states below t, with t too if it passed.
+fn extended(x: u16, t: usize, passed: bool) -> u16
+    requires { (x < 2 ^ t) × (t < most_states) }
+    ensures { result ≡ x + cond passed (2 ^ t) 0 }
+{
+    if passed { x + (1u16 << t) } else { x }
+}
 
 // Is each state of the set `from` related to one of the set `to`? Steps by an action that is not looked at need not be met.
 fn met_by(looked: bool, n: usize, rows: &[u16; 16], from: u16, to: u16) -> bool
@@ -58,11 +66,11 @@ impl Graph {
     fn refined(&self, rows: &[u16; 16]) -> [u16; 16]
         ensures { Rows self.now.states result (kept (table_of self.now) (related rows.now)) }
     {
-        let mut next = [0u16; 16];
-        for s in 0..self.states {
-            next[s] = self.left(rows, s);
-        }
-        next
+        array::from_fn(|s| if s < self.states {
+            self.left(rows, s)
+        } else {
+            0
+        })
     }
 
     // The states with the label of s.
@@ -81,11 +89,7 @@ impl Graph {
     fn start(&self) -> [u16; 16]
         ensures { Rows self.now.states result (same_label (table_of self.now)) }
     {
-        let mut rows = [0u16; 16];
-        for s in 0..self.states {
-            rows[s] = self.labelled(s);
-        }
-        rows
+        array::from_fn(|s| if s < self.states { self.labelled(s) } else { 0 })
     }
 
     // Every round but the last drops a pair, so the rounds end.

@@ -14,8 +14,8 @@ pub(crate) fn put_nodes(nodes: &mut [Triple; 64], file: &[u8], count: usize)
     requires { (nodes.old ≡ replicate most_nodes nothing) × (count ≡ length (read file.now).nodes) × (count ≤ most_nodes) }
     ensures { NodesOf (read file.now) nodes.new }
 {
-    for j in 0..count {
-        nodes[j] = case_reader::node(file, j);
+    for (j, node) in nodes[..count].iter_mut().enumerate() {
+        *node = case_reader::node(file, j);
     }
 }
 

@@ -45,17 +45,6 @@ pub enum Kind {
 }
 
 impl Kind {
-    // The numbers that the laws name.
-    pub const LAST_CONSTANT: usize = 3;
-
-    pub const TAU: usize = 5;
-
-    pub const OR: usize = 8;
-
-    pub const AND: usize = 9;
-
-    pub const CHOP: usize = 10;
-
     // How many propositions, variables, actions and groups of actions an operand can name.
     pub const PROPOSITIONS: usize = 8;
 

@@ -34,6 +34,7 @@ fn chained(file: &[u8]) -> bool
         && section_end(file, last) == file.len()
 }
 
+#[tactic(auto, unfolding(case_model::specs::Bytes::pairs_hold))]
 pub fn pairs_hold(file: &[u8], limits: Limits) -> bool
     ensures { result ≡ pairs_hold (limits_of limits) file.now }
 {

@@ -1,16 +1,14 @@
 // The tests of rows 2 to 7.
 ghost use Rattle.std.specs.Prelude.{◌≡◌, ◌≤◌, ◌<◌, length};
-ghost use Rattle.flc.specs.Sets.{for_some};
 ghost use Rattle.case_model.specs.Limits.{most_nodes};
 ghost use Rattle.case_model.specs.Case.{read, at};
-ghost use Rattle.case_model.specs.Rows.{rises, step_wrong, start_wrong, node_wrong, binds, binder_wrong, labels_hold, rule_holds, starts_rise, root_closed};
-ghost use Rattle.case_reader.specs.Read.{triple};
+ghost use Rattle.case_model.specs.Rows.{step_wrong, start_wrong, node_wrong, binds, binder_wrong, labels_hold, rule_holds, starts_rise, root_closed};
 ghost use Rattle.case_tests.specs.RowTests.{limits_of, lowest_of};
 
 use crate::limits::{Limits, NODES};
 use case_reader::{
-    Kind, Triple, is_binder, masks, node, node_count, node_holds, root, section_size, start,
-    start_count, state_count, step, step_count,
+    Kind, is_binder, masks, node, node_count, node_holds, root, section_size, start, start_count,
+    state_count, step, step_count,
 };
 
 pub fn labels_hold(file: &[u8], limits: Limits) -> bool
@@ -20,20 +18,13 @@ pub fn labels_hold(file: &[u8], limits: Limits) -> bool
     (1 <= n) & (n <= limits.states)
 }
 
-// Is t strictly before u?
-fn rises(t: Triple, u: Triple) -> bool
-    ensures { result ≡ rises (triple t) (triple u) }
-{
-    (t.0 < u.0) | ((t.0 == u.0) & ((t.1 < u.1) | ((t.1 == u.1) & (t.2 < u.2))))
-}
-
 fn step_wrong(file: &[u8], i: usize) -> bool
     ensures { result ≡ step_wrong (read file.now) i }
 {
     let n = state_count(file);
     let t = step(file, i);
     let last = step(file, i.saturating_sub(1));
-    !((t.0 < n) & (t.1 < Kind::ACTIONS) & (t.2 < n) & ((i == 0) | rises(last, t)))
+    !((t.0 < n) & (t.1 < Kind::ACTIONS) & (t.2 < n) & ((i == 0) | (last < t)))
 }
 
 // The lowest step that is wrong.

@@ -2,6 +2,7 @@
 #![tactic(auto)]
 
 mod begin;
+mod blocks;
 mod nodes;
 mod refresh;
 mod rule;

@@ -12,8 +12,8 @@ ghost use Rattle.judge_kinds_model.specs.Judging.{judging_kinds};
 ghost use Rattle.regular_model.specs.Judging.{judging_regular};
 ghost use Rattle.hoidrul.specs.Packing.{packed, counts_word, refusal_word, span_word, verdict_word, itself, Fits, Brief, Short};
 
-use case_file::{Refusal, Vetted, Written};
-use judge::Judged;
+use case_file::Refusal;
+use judge::Verdict;
 
 // A refusal has bit 63 set, its number from bit 32 on, and its place below that.
 fn refused(refusal: Refusal) -> u64
@@ -28,10 +28,9 @@ fn refused(refusal: Refusal) -> u64
 pub extern "C" fn hoidrul_vet(file: &[u8], section: usize) -> u64
     ensures { result ≡ packed counts_word (vetting file.now section) }
 {
-    let vetted = case_file::vet(file, section);
-    match vetted {
-        Vetted::Counts(counts) => (counts.states + counts.nodes * 65536) as u64,
-        Vetted::Refused(refusal) => refused(refusal),
+    match case_file::vet(file, section) {
+        Ok(counts) => (counts.states + counts.nodes * 65536) as u64,
+        Err(refusal) => refused(refusal),
     }
 }
 
@@ -40,8 +39,7 @@ pub extern "C" fn hoidrul_vet(file: &[u8], section: usize) -> u64
 pub extern "C" fn hoidrul_open(file: &[u8], section: usize) -> u64
     ensures { result ≡ span_word (opened_at file.now section) (length (opening file.now section)) }
 {
-    let vetted = case_file::vet(file, section);
-    let Vetted::Counts(_) = vetted else {
+    let Ok(_) = case_file::vet(file, section) else {
         return 0;
     };
     let offset = case_reader::section_offset(file, section);
@@ -49,23 +47,23 @@ pub extern "C" fn hoidrul_open(file: &[u8], section: usize) -> u64
     (offset * 4294967296 + size) as u64
 }
 
-fn verdict_word(judged: Judged) -> u64
+fn verdict_word(judged: Result<Verdict, Refusal>) -> u64
     requires { Fits Brief (judged_reply judged) }
     ensures { result ≡ packed verdict_word (judged_reply judged) }
 {
     match judged {
-        Judged::Verdict(verdict) => verdict.set as u64 + verdict.rounds as u64 * 65536,
-        Judged::Refused(refusal) => refused(refusal),
+        Ok(verdict) => verdict.set as u64 + verdict.rounds as u64 * 65536,
+        Err(refusal) => refused(refusal),
     }
 }
 
-fn count_word(written: Written) -> u64
+fn count_word(written: Result<usize, Refusal>) -> u64
     requires { Fits Short (written_reply written) }
     ensures { result ≡ packed itself (written_reply written) }
 {
     match written {
-        Written::Bytes(count) => count as u64,
-        Written::Refused(refusal) => refused(refusal),
+        Ok(count) => count as u64,
+        Err(refusal) => refused(refusal),
     }
 }
 

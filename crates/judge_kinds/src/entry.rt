@@ -3,8 +3,6 @@ ghost use Rattle.std.specs.Prelude.{true, ◌≡◌, length};
 ghost use Rattle.case_model.specs.Bytes.{pairs_hold};
 ghost use Rattle.case_model.specs.Judging.{judging, cleared};
 ghost use Rattle.case_model.specs.Limits.{standard};
-ghost use Rattle.case_model.specs.Replies.{Reply};
-ghost use Rattle.case_file.specs.EnumNumbers.{number};
 ghost use Rattle.judge.specs.EnumNumbers.{judged_reply};
 ghost use Rattle.judge_kinds_model.specs.Exchange.{exchanged};
 ghost use Rattle.judge_kinds_model.specs.Judging.{judging_kinds};
@@ -12,20 +10,14 @@ ghost use Rattle.judge_kinds_model.specs.Judging.{judging_kinds};
 use crate::exchange::exchange;
 use case_file::{Case, Reason, Refusal};
 use case_tests::{Limits, pairs_hold};
-use judge::{Judged, judge};
+use judge::{Verdict, judge};
 use permutations::is_permutation;
 
 // How many kinds there are.
 const KINDS: usize = 15;
 
-fn refused(reason: Reason) -> Judged
-    ensures { judged_reply result ≡ Reply.refuses (number reason) 0 }
-{
-    Judged::Refused(Refusal { reason, place: 0 })
-}
-
 // Of a file that row 1 does not refuse, so that the copy has room for it. Vetting, the plan and the tables read kinds: a copy spares them all the table.
-fn judge_exchanged(kinds: &[u8], file: &[u8], set: u16, work: &mut [u16]) -> Judged
+fn judge_exchanged(kinds: &[u8], file: &[u8], set: u16, work: &mut [u16]) -> Result<Verdict, Refusal>
     requires { pairs_hold standard file.now ≡ true }
     ensures result_value { judged_reply result ≡ judging (exchanged kinds.now file.now) set (length work.old) }
     ensures work_after { work.new ≡ cleared (judging (exchanged kinds.now file.now) set (length work.old)) work.old }
@@ -37,19 +29,19 @@ fn judge_exchanged(kinds: &[u8], file: &[u8], set: u16, work: &mut [u16]) -> Jud
 }
 
 // Judging of the file with its kinds exchanged, or refusal 15 of what is no table, before the file is looked at.
-pub fn judge_kinds(kinds: &[u8], file: &[u8], set: u16, work: &mut [u16]) -> Judged
+pub fn judge_kinds(kinds: &[u8], file: &[u8], set: u16, work: &mut [u16]) -> Result<Verdict, Refusal>
     ensures result_value { judged_reply result ≡ judging_kinds kinds.now file.now set (length work.old) }
     ensures work_after { work.new ≡ cleared (judging_kinds kinds.now file.now set (length work.old)) work.old }
 {
     if !is_permutation(kinds, KINDS) {
-        return refused(Reason::Table);
+        return Err(Reason::Table.into());
     }
     let limits = Limits {
         longest: Case::LONGEST,
         states: Case::STATES,
     };
     if !pairs_hold(file, limits) {
-        return refused(Reason::Pairs);
+        return Err(Reason::Pairs.into());
     }
     judge_exchanged(kinds, file, set, work)
 }

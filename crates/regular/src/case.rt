@@ -1,60 +1,20 @@
-// The case type of this judge: its limits, and the checked constructor.
+// The case type of this judge: its limits. The checked constructor is that of every case type, beside its test of the area.
 ghost use Rattle.std.specs.Prelude.{◌≡◌, ◌*◌, leb};
-ghost use Rattle.case_model.specs.Replies.{accepting};
-ghost use Rattle.regular_model.specs.Judging.{large};
-ghost use Rattle.regular.specs.EnumNumbers.{checked_reply};
-ghost use Rattle.regular.specs.declared.case.LargeChecked.TheVariants as checked;
+ghost use Rattle.case_file.specs.EnumNumbers.{case_counts};
 
-use case_file::{Counts, Reason, Refusal, Vetted, vet_within};
+use case_file::CaseWithin;
 
-// An accepted case.
-#[derive(Clone, Copy)]
-pub struct LargeCase {
-    counts: Counts,
-}
+// In bytes.
+const LONGEST: usize = 65535;
 
-#[derive(Clone, Copy)]
-pub enum LargeChecked {
-    Case(LargeCase),
-    Refused(Refusal),
-}
+const STATES: usize = 256;
 
-impl LargeCase {
-    // In bytes.
-    pub const LONGEST: usize = 65535;
+// An accepted case of at most so many bytes and states.
+pub type LargeCase<'a> = CaseWithin<'a, LONGEST, STATES>;
 
-    pub const STATES: usize = 256;
-
-    // The checked constructor: a case only of a file that none of refusals 1 to 7 meets within these limits.
-    pub fn new(file: &[u8]) -> LargeChecked
-        ensures { checked_reply result ≡ accepting large file.now }
-    {
-        let vetted = vet_within(file, LargeCase::LONGEST, LargeCase::STATES);
-        match vetted {
-            Vetted::Counts(counts) => LargeChecked::Case(LargeCase { counts }),
-            Vetted::Refused(refusal) => LargeChecked::Refused(refusal),
-        }
-    }
-
-    // Row 9: are there 64 bytes for each node? By a division, which no count makes overflow.
-    pub fn has_area(self, bytes: usize) -> bool
-        ensures { result ≡ leb (64 * self.counts.nodes) bytes }
-    {
-        self.counts.nodes <= bytes / 64
-    }
-}
-
-impl LargeChecked {
-    // Why there is no case. Of a case nothing is said: whoever has taken the answer apart knows which it is.
-    pub fn refusal(self) -> Refusal
-        ensures { (x : Refusal) → self ≡ checked.Refused x → result ≡ x }
-    {
-        let LargeChecked::Refused(refusal) = self else {
-            return Refusal {
-                reason: Reason::Pairs,
-                place: 0,
-            };
-        };
-        refusal
-    }
+// Row 9: are there 64 bytes for each node? By a division, which no count makes overflow.
+pub fn has_area(case: LargeCase, bytes: usize) -> bool
+    ensures { result ≡ leb (64 * (case_counts case.entry).nodes) bytes }
+{
+    case.nodes() <= bytes / 64
 }

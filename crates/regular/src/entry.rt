@@ -2,15 +2,14 @@
 ghost use Rattle.std.specs.Prelude.{◌≡◌, ◌+◌, ◌≤◌, length};
 ghost use Rattle.case_model.specs.Areas.{Laid};
 ghost use Rattle.case_model.specs.Judging.{cleared};
-ghost use Rattle.case_model.specs.Replies.{Accepted, counted, written};
+ghost use Rattle.case_model.specs.Replies.{counted, written};
 ghost use Rattle.case_file.specs.EnumNumbers.{written_reply};
 ghost use Rattle.regular_model.specs.SetBytes.{set_bytes};
 ghost use Rattle.regular_model.specs.HeldSets.{held_at};
-ghost use Rattle.regular_model.specs.Judging.{large, judging_regular};
-ghost use Rattle.regular.specs.EnumNumbers.{case_counts};
+ghost use Rattle.regular_model.specs.Judging.{judging_regular};
 
-use crate::case::{LargeCase, LargeChecked};
-use case_file::{Reason, Written, refused};
+use crate::case::{LargeCase, has_area};
+use case_file::{Reason, Refusal};
 use regular_engine::{clear, run};
 use regular_profile::is_regular;
 
@@ -22,45 +21,36 @@ fn write_set(work: &[u8], at: usize, out: &mut [u8])
     requires { (at + 32 ≤ length work.now) × (32 ≤ length out.old) }
     ensures { Laid out.old out.new 0 32 (set_bytes (held_at work.now at)) }
 {
-    for i in 0..SET {
-        out[i] = work[at + i];
-    }
+    out[..SET].copy_from_slice(&work[at..at + SET]);
 }
 
 // Of an accepted case: rows 14, 9 and 13, then the set, after which the work area is cleared.
-fn regular_accepted(file: &[u8], case: LargeCase, work: &mut [u8], out: &mut [u8]) -> Written
-    requires { Accepted large file.now (case_counts case) }
-    ensures result_value { written_reply result ≡ counted (judging_regular file.now (length work.old) (length out.old)) }
-    ensures out_after { out.new ≡ written (judging_regular file.now (length work.old) (length out.old)) out.old }
-    ensures work_after { work.new ≡ cleared (judging_regular file.now (length work.old) (length out.old)) work.old }
+fn regular_accepted(case: LargeCase, work: &mut [u8], out: &mut [u8]) -> Result<usize, Refusal>
+    ensures result_value { written_reply result ≡ counted (judging_regular case.entry.file.now (length work.old) (length out.old)) }
+    ensures out_after { out.new ≡ written (judging_regular case.entry.file.now (length work.old) (length out.old)) out.old }
+    ensures work_after { work.new ≡ cleared (judging_regular case.entry.file.now (length work.old) (length out.old)) work.old }
 {
-    let inside = is_regular(file);
-    if !inside {
-        return refused(Reason::Form);
+    if !is_regular(case.file()) {
+        return Err(Reason::Form.into());
     }
-    let enough = case.has_area(work.len());
-    if !enough {
-        return refused(Reason::Work);
+    if !has_area(case, work.len()) {
+        return Err(Reason::Work.into());
     }
-    let room = out.len();
-    if room < SET {
-        return refused(Reason::Room);
+    if out.len() < SET {
+        return Err(Reason::Room.into());
     }
-    let at = run(work, file);
+    let at = run(work, case.file());
     write_set(work, at, out);
     clear(work);
-    Written::Bytes(SET)
+    Ok(SET)
 }
 
 // Writes the set of the states that hold, or tells the first refusal.
-pub fn regular(file: &[u8], work: &mut [u8], out: &mut [u8]) -> Written
+#[tactic(auto, using(case_model::proofs::Replying::refused_too), unfolding(regular_model::specs::Judging::judging_regular))]
+pub fn regular(file: &[u8], work: &mut [u8], out: &mut [u8]) -> Result<usize, Refusal>
     ensures result_value { written_reply result ≡ counted (judging_regular file.now (length work.old) (length out.old)) }
     ensures out_after { out.new ≡ written (judging_regular file.now (length work.old) (length out.old)) out.old }
     ensures work_after { work.new ≡ cleared (judging_regular file.now (length work.old) (length out.old)) work.old }
 {
-    let checked = LargeCase::new(file);
-    let LargeChecked::Case(case) = checked else {
-        return Written::Refused(checked.refusal());
-    };
-    regular_accepted(file, case, work, out)
+    regular_accepted(LargeCase::new(file)?, work, out)
 }

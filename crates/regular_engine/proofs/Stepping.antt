@@ -11,6 +11,7 @@ use lib.Bits.{bit_or, or_lt}
 use lib.Dec.{T, eqb_refl}
 use lib.ListN.{length}
 use lib.Pow.{pow_mono}
+use Rattle.std.specs.Prelude.{Option}
 use Rattle.flc.specs.Sets.{has}
 use Rattle.flc.specs.Formula.{free}
 use Rattle.flc.specs.Nodes.{bind, tree, formula_at}
@@ -19,6 +20,7 @@ use Rattle.flc.proofs.Masks.{has_or, set_ext}
 use Rattle.flc.proofs.Unfolding.{formula_at_node}
 use Rattle.case_model.specs.Limits.{most_nodes}
 use Rattle.case_model.specs.Case.{read, table}
+use Rattle.case_plan.specs.declared.moves.Direction.{Direction}
 use Rattle.case_plan.specs.Plans.{Plan, decoded, nodes_of, SoundRule}
 use Rattle.case_plan.proofs.Scopes.{node_fits, node_lower, scope_frees, scope_names, scope_body, scope_small}
 use Rattle.regular_model.specs.Blocks.{Frame, Within, Refreshed, made}
@@ -28,7 +30,7 @@ use Rattle.regular_model.proofs.Blocks as theory
 use Rattle.regular_model.proofs.SetBytes.{stored_placed}
 use Rattle.regular_sets.specs.Views.{frame, Fillable}
 use Rattle.regular_sets.specs.declared.nodes.Rule.{Rule}
-use Rattle.regular_engine.specs.Computing.{Area, Refreshable, RefreshedBy, Computable, ComputedBy}
+use Rattle.regular_engine.specs.Computing.{moved, Area, Refreshable, RefreshedBy, Computable, ComputedBy}
 
 -- ---- masks
 or_within : (F : Frame) (j act : ℕ) → bit_or (F.scope j) act ≡ act → Within F j act
@@ -64,7 +66,7 @@ pub not_zero : (k : ℕ) → (k ≡ 0 → ⊥) → k ≡ suc (k - 1)
 not_zero k n = elim (ℕ_discrete k 0) [ yes e ↦ absurd (n e) | no e ↦ omega arith ]
 
 -- where the nodes below the last one, k - 1, are computed, from the area w to y; u is what the last one depends on
-pub record Lowered (f : List ℕ) (p : Plan) (w y : List ℕ) (k old act grown u : ℕ) : Type 0 where
+pub record Lowered (f : List ℕ) (p : Plan) (w y : List ℕ) (k old act : ℕ) (grown : Option Direction) (u : ℕ) : Type 0 where
   pub refreshable : Refreshable f p w k old act
   pub some : k ≡ 0 → ⊥
   pub lower : RefreshedBy f p w y (k - 1) old act grown
@@ -79,11 +81,11 @@ module _ {f : List ℕ} {p : Plan} where
   block_room A = omega (arith, A.ready.below, A.room)
 
   -- ---- refresh
-  pub refresh_none : {w : List ℕ} {k : ℕ} (old act grown : ℕ) → Refreshable f p w k old act → k ≡ 0 → RefreshedBy f p w w k old act grown
+  pub refresh_none : {w : List ℕ} {k : ℕ} (old act : ℕ) (grown : Option Direction) → Refreshable f p w k old act → k ≡ 0 → RefreshedBy f p w w k old act grown
   refresh_none {w} {k} old act grown R e = record {
     long = refl;
-    is = subst (λ k. Refreshed (frame (read f) p) (blocks w) (blocks w) k old act grown) (sym e)
-        (theory.refresh_none (frame (read f) p) (blocks w) old act grown R.area.ready.small);
+    is = subst (λ k. Refreshed (frame (read f) p) (blocks w) (blocks w) k old act (moved grown)) (sym e)
+        (theory.refresh_none (frame (read f) p) (blocks w) old act (moved grown) R.area.ready.small);
   }
 
   -- the last node is k - 1
@@ -100,18 +102,18 @@ module _ {f : List ℕ} {p : Plan} where
       small = R.small;
     }
 
-  module _ {w y : List ℕ} {k old act grown u : ℕ} (L : Lowered f p w y k old act grown u) where
+  module _ {w y : List ℕ} {k old act : ℕ} {grown : Option Direction} {u : ℕ} (L : Lowered f p w y k old act grown u) where
     abbrev j : ℕ
     j = k - 1
 
     last : Area f p w (suc j) act
     last = last_area L.refreshable L.some
 
-    up : {v : List ℕ} → length v ≡ length w → Refreshed (frame (read f) p) (blocks w) (blocks v) (suc j) old act grown
+    up : {v : List ℕ} → length v ≡ length w → Refreshed (frame (read f) p) (blocks w) (blocks v) (suc j) old act (moved grown)
         → RefreshedBy f p w v k old act grown
     up {v} l h = record {
       long = l;
-      is = subst (λ k. Refreshed (frame (read f) p) (blocks w) (blocks v) k old act grown) (sym (not_zero k L.some)) h;
+      is = subst (λ k. Refreshed (frame (read f) p) (blocks w) (blocks v) k old act (moved grown)) (sym (not_zero k L.some)) h;
     }
 
     within : (z : ℕ) → bit_or u z ≡ z → Within (frame (read f) p) j z
@@ -159,7 +161,7 @@ module _ {f : List ℕ} {p : Plan} where
           C.area.ready.active v h (C.within v (omega arith) t);
     }
 
-    pub computed_plain : {v : List ℕ} → Stated f p → (grown : ℕ) → ((d : Bool) (v b : ℕ) → nodes_of p j ≡ bind d v b → ⊥)
+    pub computed_plain : {v : List ℕ} → Stated f p → (grown : Option Direction) → ((d : Bool) (v b : ℕ) → nodes_of p j ≡ bind d v b → ⊥)
         → Stored w v (64 * j) (made (frame (read f) p) (nodes_of p j) (blocks w)) → ComputedBy f p w v j act grown
     unfolding table
     computed_plain {v} T grown plain s =
@@ -167,5 +169,5 @@ module _ {f : List ℕ} {p : Plan} where
         theory.made_small (framed f S) (blocks w) C.area.ready.small j there in
         record {
           long = s.long;
-          is = theory.computed_plain (framed f S) act grown C.area.ready.small there plain C.within (stored_placed j _ (few_sets T _ small) s);
+          is = theory.computed_plain (framed f S) act (moved grown) C.area.ready.small there plain C.within (stored_placed j _ (few_sets T _ small) s);
         }

@@ -7,6 +7,7 @@ use native.Mathlib.Omega.{arith}
 use lib.Dec.{T}
 use lib.ListN.{length, get_or}
 use lib.Pow.{pow_pos}
+use Rattle.std.specs.Prelude.{None}
 use Rattle.flc.specs.Formula.{mean, none}
 use Rattle.flc.specs.Nodes.{formula_at}
 use Rattle.flc.proofs.Masks.{has_empty, set_of_lt}
@@ -63,11 +64,11 @@ module _ {f : List ℕ} {p : Plan} {w v : List ℕ} (R : Runnable f (length w)) 
         small = omega arith;
       }
 
-  pub ran : {y : List ℕ} → RefreshedBy f p v y (p.root + 1) 0 65536 0 → Ran f w y (64 * p.root)
+  pub ran : {y : List ℕ} → RefreshedBy f p v y (p.root + 1) 0 65536 None → Ran f w y (64 * p.root)
   unfolding rule
   ran {y} S =
       let e : p.root + 1 ≡ suc p.root = omega arith in
-      let is = (subst (λ k. RefreshedBy f p v y k 0 65536 0) e S).is in
+      let is = (subst (λ k. RefreshedBy f p v y k 0 65536 None) e S).is in
       let small : all_states (read f) < 2 ^ (table (read f)).n = unfold table in set_of_lt (length (read f).labels) (λ s. true) in
       let profile : T (regular (formula_at (nodes_of p) p.root)) =
       subst₂ (λ N r. T (regular (formula_at N r))) (sym P.nodes) (sym P.root) R.profile in

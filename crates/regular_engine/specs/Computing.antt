@@ -1,11 +1,9 @@
 -- What the recursion over nodes asks for and leaves, on the byte area. The private contracts cite these.
-use Rattle.std.specs.Prelude.{ℕ, suc, ◌+◌, ◌*◌, ◌^◌, ◌≤◌, ◌<◌, Bool, cond, List, ◌≡◌, T, eqb, length}
-use Rattle.std.specs.declared.option.Option.{Option}
-use Rattle.std.specs.declared.option.Option.TheVariants.{None, Some}
+use Rattle.std.specs.Prelude.{ℕ, suc, ◌+◌, ◌*◌, ◌^◌, ◌≤◌, ◌<◌, Bool, cond, List, ◌≡◌, T, Option, Some, None, length}
 use Rattle.flc.specs.Nodes.{bind}
 use Rattle.case_model.specs.Case.{read, rule}
 use Rattle.case_model.specs.Rows.{sound, refusals}
-use Rattle.case_plan.specs.Moves.{direction}
+use Rattle.case_plan.specs.Moves.{direction, goes_on}
 use Rattle.case_plan.specs.Plans.{Plan, nodes_of, SoundRule}
 use Rattle.case_plan.specs.declared.moves.Direction.{Direction}
 use Rattle.case_plan.specs.declared.moves.Direction.TheVariants.{Up, Down}
@@ -16,19 +14,15 @@ use Rattle.regular_model.specs.Blocks.{Ready, Within, Refreshed, Computed}
 use Rattle.regular_model.specs.HeldSets.{held_at, blocks}
 use Rattle.regular_sets.specs.Views.{frame}
 
--- in which direction one binder alone moved since a node was computed, as a number: 0 if more did
+-- in which direction a binder's set alone moved since a node was computed, by the numbers of the model's clauses: 0 if nothing is known
 abbrev pub moved : Option Direction → ℕ
 moved None = 0
 moved (Some Up) = 1
 moved (Some Down) = 2
 
--- the direction of a binder: a least fixed point is approached upwards, a greatest downwards
-abbrev pub way : Bool → ℕ
-way least = moved (Some (direction least))
-
 -- the old set if the binder moves on in the direction `grown`, else no states (all states)
-abbrev pub begins : Bool → ℕ → ℕ → ℕ → ℕ
-begins least grown n old = cond (eqb (way least) grown) old (sets.begin least n)
+abbrev pub begins : Bool → Option Direction → ℕ → ℕ → ℕ
+begins least grown n old = cond (goes_on (direction least) grown) old (sets.begin least n)
 
 -- the nodes below k may be computed
 pub record Area (f : List ℕ) (p : Plan) (w : List ℕ) (k act : ℕ) : Type 0 where
@@ -41,17 +35,17 @@ pub record Refreshable (f : List ℕ) (p : Plan) (w : List ℕ) (k old act : ℕ
   pub area : Area f p w k act
   pub small : old < 2 ^ 18
 
-pub record RefreshedBy (f : List ℕ) (p : Plan) (w v : List ℕ) (k old act grown : ℕ) : Type 0 where
+pub record RefreshedBy (f : List ℕ) (p : Plan) (w v : List ℕ) (k old act : ℕ) (grown : Option Direction) : Type 0 where
   pub long : length v ≡ length w
-  pub is : Refreshed (frame (read f) p) (blocks w) (blocks v) k old act grown
+  pub is : Refreshed (frame (read f) p) (blocks w) (blocks v) k old act (moved grown)
 
 pub record Computable (f : List ℕ) (p : Plan) (w : List ℕ) (j act : ℕ) : Type 0 where
   pub area : Area f p w (suc j) act
   pub within : Within (frame (read f) p) j act
 
-pub record ComputedBy (f : List ℕ) (p : Plan) (w v : List ℕ) (j act grown : ℕ) : Type 0 where
+pub record ComputedBy (f : List ℕ) (p : Plan) (w v : List ℕ) (j act : ℕ) (grown : Option Direction) : Type 0 where
   pub long : length v ≡ length w
-  pub is : Computed (frame (read f) p) (blocks w) (blocks v) j act grown
+  pub is : Computed (frame (read f) p) (blocks w) (blocks v) j act (moved grown)
 
 -- node j is a binder
 pub record Iterable (f : List ℕ) (p : Plan) (w : List ℕ) (j act : ℕ) (least : Bool) : Type 0 where

@@ -1,6 +1,6 @@
-// The sets of all nodes, by recursion over nodes with the number falling; those of binders by iterates.
+// The sets of all nodes, by recursion over nodes with the number falling, as clause 11.5 has it; those of binders by iterates.
 ghost use Rattle.case_plan.specs.Plans.{decoded};
-ghost use Rattle.regular_engine.specs.Computing.{moved, Refreshable, RefreshedBy, Computable, ComputedBy, Iterable};
+ghost use Rattle.regular_engine.specs.Computing.{Refreshable, RefreshedBy, Computable, ComputedBy, Iterable};
 
 use crate::begin::begin;
 use case_plan::{Direction, variable};
@@ -19,7 +19,7 @@ pub(crate) fn refresh(
     grown: Option<Direction>,
 )
     requires { Refreshable rule.now.drive.file.now (decoded rule.now.plan.now) work.old k old act }
-    ensures { RefreshedBy rule.now.drive.file.now (decoded rule.now.plan.now) work.old work.new k old act (moved grown) }
+    ensures { RefreshedBy rule.now.drive.file.now (decoded rule.now.plan.now) work.old work.new k old act grown }
 {
     if k == 0 {
         return;
@@ -36,7 +36,7 @@ pub(crate) fn refresh(
 #[cycle(compute_iterate_refresh)]
 fn compute(work: &mut [u8], rule: &Rule, j: usize, act: u32, grown: Option<Direction>)
     requires { Computable rule.now.drive.file.now (decoded rule.now.plan.now) work.old j act }
-    ensures { ComputedBy rule.now.drive.file.now (decoded rule.now.plan.now) work.old work.new j act (moved grown) }
+    ensures { ComputedBy rule.now.drive.file.now (decoded rule.now.plan.now) work.old work.new j act grown }
 {
     match kind_of(rule.plan.node(j)) {
         Kind::Binder(least) => iterate(work, rule, j, act, grown, least),
@@ -49,7 +49,7 @@ fn compute(work: &mut [u8], rule: &Rule, j: usize, act: u32, grown: Option<Direc
 #[cycle(compute_iterate_refresh)]
 fn iterate(work: &mut [u8], rule: &Rule, j: usize, act: u32, grown: Option<Direction>, least: bool)
     requires { Iterable rule.now.drive.file.now (decoded rule.now.plan.now) work.old j act least }
-    ensures { ComputedBy rule.now.drive.file.now (decoded rule.now.plan.now) work.old work.new j act (moved grown) }
+    ensures { ComputedBy rule.now.drive.file.now (decoded rule.now.plan.now) work.old work.new j act grown }
 {
     let x = rule.plan.node(j);
     let n = rule.plan.states;
@@ -58,7 +58,7 @@ fn iterate(work: &mut [u8], rule: &Rule, j: usize, act: u32, grown: Option<Direc
     let mut since: Option<Direction> = None;
     for _ in 0..n {
         refresh(work, rule, j, act, wide, since);
-        if advance(work, 64 * x.2, 64 * j) == 0 {
+        if !advance(work, 64 * x.2, 64 * j) {
             return;
         }
         since = Some(Direction::of(least));

@@ -1,16 +1,18 @@
--- Bytes of sets: one made of bits, the highest first; those of the set of all states; one that a loop did not touch yet; when | and ^ give 0.
+-- Bytes of sets: one made of bits, the highest first; those of the set of all states; one in a part of the area.
 use Prim.Native.Nat.{ℕ, zero, suc, ◌+◌, ◌*◌, ◌-◌, ◌^◌, ◌≤◌, ◌<◌}
 use mathlib.Core.Bool.{Bool, true, false}
-use mathlib.Core.List.{List}
+use mathlib.Core.List.{List, ◌++◌}
 use mathlib.Core.Path.{◌≡◌, refl, sym, ap, ◌∙◌}
 use native.Mathlib.Decide.{dec_lt}
 use native.Mathlib.Omega.{arith}
-use lib.ListN.{get_or}
+use lib.ListN.{length, get_or, take}
+use lib.Seq.{length-take-le}
 use mir.Val.{bool_byte}
-use lib.Bits.{bit_or, bit_xor, or_add_and, xor_add_and, and_le_l, and_le_r}
+use Rattle.std.proofs.lemmas.List.{get_or_append_left}
 use lib.Pow.{pow_mono}
 use Rattle.flc.specs.Sets.{has, bit, set_of}
 use Rattle.flc.proofs.Masks.{bit_le, has-set_of, has_beyond, set_of_lt}
+use Rattle.areas.proofs.Parts.{part_under}
 use Rattle.regular_model.specs.SetBytes.{byte_of}
 use Rattle.regular_model.specs.HeldSets.{held_at}
 use Rattle.regular_model.proofs.SetBytes.{byte_ext, bits_more, bits_all, held_byte}
@@ -22,13 +24,6 @@ bits_from x i t = set_of (8 - t) (λ u. has x (8 * i + (t + u)))
 pub bits_none : (x i : ℕ) → 0 ≡ bits_from x i 8
 unfolding set_of
 bits_none x i = refl
-
-pub bits_low : (x i t y : ℕ) → 0 < t → y ≡ bits_from x i t → y < 128
-bits_low x i t y h e = omega (arith, set_of_lt (8 - t) (λ u. has x (8 * i + (t + u))), pow_mono {i = 8 - t} {j = 7} (omega arith))
-
--- there is room for one more
-pub bits_room : (x i t y b : ℕ) → 0 < t → y ≡ bits_from x i t → b ≡ bit (has x (8 * i + (t - 1))) → 2 * y + b ≤ 255
-bits_room x i t y b h e q = omega (arith, bits_low x i t y h e, bit_le (has x (8 * i + (t - 1))))
 
 -- a bit as the code has it
 pub bit_is : (b : Bool) → bool_byte b ≡ bit b
@@ -71,14 +66,11 @@ full_part n i k y e h low high =
           ∙ sym (has_beyond n _ (8 * i + t) (set_of_lt n _) (high t l (omega arith)))
     ])
 
--- ---- a byte of the set at a, unchanged from w to v
-pub held_yet : (w v : List ℕ) (a i : ℕ) → get_or v (a + i) 0 ≡ get_or w (a + i) 0 → get_or v (a + i) 0 < 256 → i < 32
-    → get_or v (a + i) 0 ≡ byte_of (held_at w a) i
-held_yet w v a i e small h = e ∙ held_byte w a i (omega arith) h
-
--- ---- when | and ^ give 0
-pub or_zero : (a b : ℕ) → bit_or a b ≡ 0 → (a ≡ 0) × (b ≡ 0)
-or_zero a b e = omega (arith, or_add_and a b, and_le_l a b, and_le_r a b)
-
-pub xor_zero : (a b : ℕ) → bit_xor a b ≡ 0 → a ≡ b
-xor_zero a b e = omega (arith, xor_add_and a b, and_le_l a b, and_le_r a b)
+-- ---- a byte of the set at a, in the part of w below c
+module _ (w : List ℕ) {below : List ℕ} {c : ℕ} (front : below ≡ take c w) (rest : List ℕ) (small : (p : ℕ) → get_or (below ++ rest) p 0 < 256) where
+  pub held_below : (a i : ℕ) → a + 32 ≤ c → c ≤ length w → i < 32 → get_or below (a + i) 0 ≡ byte_of (held_at w a) i
+  held_below a i h k l =
+      let e = part_under w front (a + i) (omega arith) in
+      let inside : a + i < length below = omega (arith, ap length front, length-take-le c w k) in
+      let q = get_or_append_left below rest 0 (a + i) inside in
+      e ∙ held_byte w a i (rw (sym e ∙ sym q) (small (a + i))) l

@@ -2,10 +2,11 @@
 ghost use Rattle.std.specs.Prelude.{true, ◌⊎◌, ◌≡◌, ◌+◌, ◌*◌, ◌≤◌, ◌<◌, length};
 ghost use Rattle.std.specs.Int.Bits.{bit_or, bit_and};
 ghost use Rattle.flc.specs.Sets.{has, set_of};
-ghost use Rattle.flc.specs.Order.{signed};
 ghost use Rattle.regular_model.specs.SetBytes.{byte_of};
 ghost use Rattle.regular_model.specs.HeldSets.{held_at, Stored};
 ghost use Rattle.regular_sets.specs.Views.{Advanced, Taken};
+
+use areas::fill;
 
 // Byte i of the set of all n states.
 fn full_byte(n: usize, i: usize) -> u8
@@ -35,9 +36,7 @@ pub fn constant(work: &mut [u8], n: usize, full: bool, c: usize)
     requires { (n ≤ 256) × (c + 32 ≤ length work.old) }
     ensures { Stored work.old work.new c (set_of n (λ _. full)) }
 {
-    for i in 0..32 {
-        work[c + i] = constant_byte(n, full, i);
-    }
+    fill(&mut work[c..c + 32], |i| constant_byte(n, full, i));
 }
 
 // The set at a.
@@ -45,9 +44,7 @@ pub(crate) fn copy(work: &mut [u8], a: usize, c: usize)
     requires { (a + 32 ≤ length work.old) × (c + 32 ≤ length work.old) × ((a + 32 ≤ c) ⊎ (c + 32 ≤ a)) }
     ensures { Stored work.old work.new c (held_at work.old a) }
 {
-    for i in 0..32 {
-        work[c + i] = work[a + i];
-    }
+    work.copy_within(a..a + 32, c);
 }
 
 // The union of the sets at a and b.
@@ -55,9 +52,9 @@ pub(crate) fn union(work: &mut [u8], a: usize, b: usize, c: usize)
     requires { (a + 32 ≤ c) × (b + 32 ≤ c) × (c + 32 ≤ length work.old) }
     ensures { Stored work.old work.new c (bit_or (held_at work.old a) (held_at work.old b)) }
 {
-    for i in 0..32 {
-        work[c + i] = work[a + i] | work[b + i];
-    }
+    let (below, rest) = work.split_at_mut(c);
+    let (set, _) = rest.split_at_mut(32);
+    fill(set, |i| below[a + i] | below[b + i]);
 }
 
 // Their intersection.
@@ -65,23 +62,19 @@ pub(crate) fn intersection(work: &mut [u8], a: usize, b: usize, c: usize)
     requires { (a + 32 ≤ c) × (b + 32 ≤ c) × (c + 32 ≤ length work.old) }
     ensures { Stored work.old work.new c (bit_and (held_at work.old a) (held_at work.old b)) }
 {
-    for i in 0..32 {
-        work[c + i] = work[a + i] & work[b + i];
-    }
+    let (below, rest) = work.split_at_mut(c);
+    let (set, _) = rest.split_at_mut(32);
+    fill(set, |i| below[a + i] & below[b + i]);
 }
 
-// The set at b, below. The answer is 0 just if nothing changed.
-pub fn advance(work: &mut [u8], b: usize, c: usize) -> u8
+// The set at b, below. Did that change anything?
+pub fn advance(work: &mut [u8], b: usize, c: usize) -> bool
     requires { (b + 32 ≤ c) × (c + 32 ≤ length work.old) }
     ensures { Advanced work.old work.new b c result }
 {
-    let mut change: u8 = 0;
-    for i in 0..32 {
-        let v = work[b + i];
-        change = change | (v ^ work[c + i]);
-        work[c + i] = v;
-    }
-    change
+    let (below, rest) = work.split_at_mut(c);
+    let (set, _) = rest.split_at_mut(32);
+    areas::advance(set, &below[b..b + 32])
 }
 
 // The set at a, taken out.
@@ -90,17 +83,8 @@ pub(crate) fn take(work: &[u8], a: usize) -> [u8; 32]
     ensures { Taken work.now a result }
 {
     let mut x = [0u8; 32];
-    for i in 0..32 {
-        x[i] = work[a + i];
-    }
+    x.copy_from_slice(&work[a..a + 32]);
     x
-}
-
-// The test itself, or with the flag false its complement.
-pub(crate) fn agrees(test: bool, flag: bool) -> bool
-    ensures { result ≡ signed flag test }
-{
-    if flag { test } else { !test }
 }
 
 // Has it state t?

@@ -6,24 +6,23 @@ ghost use Rattle.case_model.specs.Case.{read, table};
 ghost use Rattle.regular_model.specs.HeldSets.{Stored};
 ghost use Rattle.regular_sets.specs.Views.{label_atom};
 
-use crate::bytes::agrees;
 use crate::drive::Drive;
 use crate::members::store;
 use case_reader::{has, label};
 
 impl Drive<'_> {
     // Has the label of state s proposition p, or with the flag false: has it not? Of no state, no.
-    fn labelled(&self, p: usize, with: bool, s: usize) -> bool
+    fn labelled(self, p: usize, with: bool, s: usize) -> bool
         requires { p < 8 }
-        ensures { result ≡ has (mean_atom (table (read self.now.file.now)) (label_atom with p) 0) s }
+        ensures { result ≡ has (mean_atom (table (read self.entry.file.now)) (label_atom with p) 0) s }
     {
-        s < self.states && agrees(has(label(self.file, s) as u64, p), with)
+        s < self.states && has(label(self.file, s) as u64, p) == with
     }
 }
 
-pub(crate) fn label_set(work: &mut [u8], drive: &Drive, p: usize, with: bool, c: usize)
+pub(crate) fn label_set(work: &mut [u8], drive: Drive, p: usize, with: bool, c: usize)
     requires { (p < 8) × (c + 32 ≤ length work.old) }
-    ensures { Stored work.old work.new c (mean_atom (table (read drive.now.file.now)) (label_atom with p) 0) }
+    ensures { Stored work.old work.new c (mean_atom (table (read drive.entry.file.now)) (label_atom with p) 0) }
 {
     store(work, c, |s| drive.labelled(p, with, s));
 }

@@ -4,6 +4,8 @@ ghost use Rattle.regular_model.specs.SetBytes.{byte_of};
 ghost use Rattle.regular_model.specs.HeldSets.{Stored};
 ghost use Rattle.regular_sets.specs.Views.{Tells};
 
+use areas::fill;
+
 // Byte i: those of the states 8i to 8i + 7, the lowest in its lowest bit.
 fn byte_by<F: Fn(usize) -> bool>(test: &F, i: usize) -> u8
     requires callable { F.IsAlwaysCallable test.now }
@@ -23,7 +25,5 @@ pub(crate) fn store<F: Fn(usize) -> bool>(work: &mut [u8], c: usize, test: F)
     requires room { c + 32 ≤ length work.old }
     ensures { (x : ℕ) → Tells (F.post test) x → Stored work.old work.new c x }
 {
-    for i in 0..32 {
-        work[c + i] = byte_by(&test, i);
-    }
+    fill(&mut work[c..c + 32], |i| byte_by(&test, i));
 }

@@ -1,6 +1,6 @@
 // The modalities: of each state, its steps by the actions of a group are looked at until one decides.
 ghost use Rattle.std.specs.Prelude.{true, false, ◌≡◌, ℕ, ◌+◌, ◌*◌, ◌≤◌, ◌<◌, length};
-ghost use Rattle.flc.specs.Sets.{both, has, singleton};
+ghost use Rattle.flc.specs.Sets.{has, singleton};
 ghost use Rattle.flc.specs.Formula as logic;
 ghost use Rattle.flc.specs.Formula.{actions, mean_atom};
 ghost use Rattle.case_model.specs.Kinds.{node_of, node_holds, fits};
@@ -10,14 +10,16 @@ ghost use Rattle.case_reader.specs.NodeKinds.{atom_with, operand_of};
 ghost use Rattle.regular_model.specs.Values.{modality_in};
 ghost use Rattle.regular_model.specs.Blocks.{modality_at};
 ghost use Rattle.regular_model.specs.HeldSets.{held_at, Stored};
-ghost use Rattle.regular_model.specs.StepGroups.{group_at, hits};
+ghost use Rattle.regular_model.specs.StepGroups.{hits};
+ghost use Rattle.regular_sets.specs.Views.{decided};
 
-use crate::bytes::{agrees, member, take};
+use crate::bytes::{member, take};
 use crate::drive::Drive;
 use crate::members::store;
-use case_reader::{Atom, Kind, Triple, has, kind_of};
+use case_reader::{Atom, Kind, Triple, kind_of};
 
 // Of some step if true, else of all, by the actions of a group, which are among those from `first` up to `last`.
+// `some` is a flag as in clause 1.7's atoms: it chooses between two quantifiers, and no field hangs on it.
 #[derive(Clone, Copy)]
 pub struct Modality {
     pub some: bool,
@@ -79,28 +81,29 @@ pub(crate) fn modality_at(x: Triple) -> Modality
 
 impl Drive<'_> {
     // The state that step i enters. Read without a test of the length: this is the innermost of all loops.
-    fn target(&self, i: usize) -> usize
-        requires { i < length (read self.now.file.now).steps }
-        ensures { Is (at (read self.now.file.now).steps i).2 256 result }
+    fn target(self, i: usize) -> usize
+        requires { i < length (read self.file.now).steps }
+        ensures { Is (at (read self.entry.file.now).steps i).2 256 result }
     {
         self.file[self.steps + 3 * i + 2] as usize
     }
 
     // Does a step from place `from` up to `to` lead into the set, or out of it?
-    fn hit(&self, from: usize, to: usize, x: &[u8; 32], into: bool) -> bool
-        requires { to ≤ length (read self.now.file.now).steps }
-        ensures { result ≡ hits (read self.now.file.now).steps (held_at x.now 0) into from to }
+    fn hit(self, from: usize, to: usize, x: &[u8; 32], into: bool) -> bool
+        requires { to ≤ length (read self.file.now).steps }
+        ensures { result ≡ hits (read self.entry.file.now).steps (held_at x.now 0) into from to }
     {
-        (from..to).any(|i| agrees(member(x, self.target(i)), into))
+        (from..to).any(|i| member(x, self.target(i)) == into)
     }
 
     // The same for the steps of state s by action a, if the group has it.
-    fn decides(&self, x: &[u8; 32], m: Modality, s: usize, a: usize) -> bool
-        requires { (s < length (read self.now.file.now).labels) × (a < 8) }
-        ensures { result ≡ both (has m.group a) (hits (read self.now.file.now).steps (held_at x.now 0) m.some (group_at (read self.now.file.now).steps (8 * s + a)) (group_at (read self.now.file.now).steps (8 * s + a + 1))) }
+    fn decides(self, x: &[u8; 32], m: Modality, s: usize, a: usize) -> bool
+        requires { (s < length (read self.file.now).labels) × (a < 8) }
+        ensures { result ≡ decided (read self.entry.file.now).steps (held_at x.now 0) m.some m.group s a }
     {
         let k = 8 * s + a;
-        has(m.group as u64, a)
+        // No call of `has`, which tests the width too: in this loop over all states that took 1.06 of the time.
+        (m.group >> a) % 2 == 1
             && self.hit(
                 self.index[k] as usize,
                 self.index[k + 1] as usize,
@@ -110,17 +113,17 @@ impl Drive<'_> {
     }
 
     // Is state s in the modality of the set? No state past the table is.
-    pub(crate) fn holds(&self, x: &[u8; 32], m: Modality, s: usize) -> bool
-        ensures { result ≡ has (mean_atom (table (read self.now.file.now)) (logic.modal m.some m.group) (held_at x.now 0)) s }
+    pub(crate) fn holds(self, x: &[u8; 32], m: Modality, s: usize) -> bool
+        ensures { result ≡ has (mean_atom (table (read self.entry.file.now)) (logic.modal m.some m.group) (held_at x.now 0)) s }
     {
-        s < self.states && agrees((m.first..m.last).any(|a| self.decides(x, m, s, a)), m.some)
+        s < self.states && (m.first..m.last).any(|a| self.decides(x, m, s, a)) == m.some
     }
 }
 
 // The modality of the set at b.
-pub(crate) fn modal_set(work: &mut [u8], drive: &Drive, m: Modality, b: usize, c: usize)
+pub(crate) fn modal_set(work: &mut [u8], drive: Drive, m: Modality, b: usize, c: usize)
     requires { (b + 32 ≤ length work.old) × (c + 32 ≤ length work.old) }
-    ensures { Stored work.old work.new c (mean_atom (table (read drive.now.file.now)) (logic.modal m.some m.group) (held_at work.old b)) }
+    ensures { Stored work.old work.new c (mean_atom (table (read drive.entry.file.now)) (logic.modal m.some m.group) (held_at work.old b)) }
 {
     let x = take(work, b);
     store(work, c, |s| drive.holds(&x, m, s));

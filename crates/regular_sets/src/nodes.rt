@@ -7,9 +7,8 @@ ghost use Rattle.case_reader.specs.NodeKinds.{atom_with, op_of, operand_of};
 ghost use Rattle.flc.specs.Nodes.{two};
 ghost use Rattle.case_plan.specs.Plans.{decoded, nodes_of};
 ghost use Rattle.regular_model.specs.Values.{constant_of};
-ghost use Rattle.regular_model.specs.Blocks.{made};
-ghost use Rattle.regular_model.specs.HeldSets.{blocks, Stored};
-ghost use Rattle.regular_sets.specs.Views.{frame, Fillable};
+ghost use Rattle.regular_model.specs.HeldSets.{Stored};
+ghost use Rattle.regular_sets.specs.Views.{Fillable, NodeMade};
 
 use crate::bytes::{constant, copy, intersection, union};
 use crate::drive::Drive;
@@ -17,19 +16,6 @@ use crate::labels::label_set;
 use crate::modal::{modal_set, modality_at};
 use case_plan::Plan;
 use case_reader::{Atom, Kind, Operator, kind_of};
-
-// An atom with its operand a; τ and the modalities have no set of their own.
-fn fill_atom(work: &mut [u8], drive: &Drive, atom: Atom, a: usize, c: usize)
-    requires { ((j : ℕ) → fits (operand_of atom) j a ≡ true) × (c + 32 ≤ length work.old) }
-    ensures { Stored work.old work.new c (mean_atom (table (read drive.now.file.now)) (constant_of (atom_with atom a)) 0) }
-{
-    match atom {
-        Atom::Top => constant(work, drive.states, true, c),
-        Atom::Proposition => label_set(work, drive, a, true, c),
-        Atom::Complement => label_set(work, drive, a, false, c),
-        _ => constant(work, drive.states, false, c),
-    }
-}
 
 // The rule of a case, as it was planned, and the drive that it is judged on.
 #[derive(Clone, Copy)]
@@ -39,10 +25,24 @@ pub struct Rule<'a> {
     ghost same_states: { (decoded plan.now).states ≡ drive.states },
 }
 
+// An atom with its operand a; τ and the modalities have no set of their own.
+fn fill_atom(work: &mut [u8], drive: Drive, atom: Atom, a: usize, c: usize)
+    requires { ((j : ℕ) → fits (operand_of atom) j a ≡ true) × (c + 32 ≤ length work.old) }
+    ensures { Stored work.old work.new c (mean_atom (table (read drive.entry.file.now)) (constant_of (atom_with atom a)) 0) }
+{
+    match atom {
+        Atom::Top => constant(work, drive.states, true, c),
+        Atom::Proposition => label_set(work, drive, a, true, c),
+        Atom::Complement => label_set(work, drive, a, false, c),
+        _ => constant(work, drive.states, false, c),
+    }
+}
+
 // Two nodes under an operator.
 fn fill_two(work: &mut [u8], rule: &Rule, j: usize, operator: Operator)
-    requires { Fillable rule.now.drive.file.now (decoded rule.now.plan.now) work.old j × (nodes_of (decoded rule.now.plan.now) j ≡ two (op_of operator) ((decoded rule.now.plan.now).nodes j).1 ((decoded rule.now.plan.now).nodes j).2) }
-    ensures { Stored work.old work.new (64 * j) (made (frame (read rule.now.drive.file.now) (decoded rule.now.plan.now)) (nodes_of (decoded rule.now.plan.now) j) (blocks work.old)) }
+    requires ready { Fillable rule.now.drive.file.now (decoded rule.now.plan.now) work.old j }
+    requires operands { let p = decoded rule.now.plan.now in nodes_of p j ≡ two (op_of operator) (p.nodes j).1 (p.nodes j).2 }
+    ensures { NodeMade rule.now.drive.file.now (decoded rule.now.plan.now) work.old j work.new }
 {
     let x = rule.plan.node(j);
     let a = 64 * x.1;
@@ -53,7 +53,7 @@ fn fill_two(work: &mut [u8], rule: &Rule, j: usize, operator: Operator)
         Operator::And => intersection(work, a, b, c),
         Operator::Chop => {
             let left = modality_at(rule.plan.node(x.1));
-            modal_set(work, &rule.drive, left, b, c)
+            modal_set(work, rule.drive, left, b, c)
         }
     }
 }
@@ -61,12 +61,12 @@ fn fill_two(work: &mut [u8], rule: &Rule, j: usize, operator: Operator)
 // Node j, which is no binder.
 pub fn fill(work: &mut [u8], rule: &Rule, j: usize)
     requires { Fillable rule.now.drive.file.now (decoded rule.now.plan.now) work.old j }
-    ensures { Stored work.old work.new (64 * j) (made (frame (read rule.now.drive.file.now) (decoded rule.now.plan.now)) (nodes_of (decoded rule.now.plan.now) j) (blocks work.old)) }
+    ensures { NodeMade rule.now.drive.file.now (decoded rule.now.plan.now) work.old j work.new }
 {
     let x = rule.plan.node(j);
     let c = 64 * j;
     match kind_of(x) {
-        Kind::Atom(atom) => fill_atom(work, &rule.drive, atom, x.1, c),
+        Kind::Atom(atom) => fill_atom(work, rule.drive, atom, x.1, c),
         Kind::Variable => copy(work, 64 * rule.plan.binder(x.1), c),
         Kind::Two(operator) => fill_two(work, rule, j, operator),
         Kind::Binder(_) => {}

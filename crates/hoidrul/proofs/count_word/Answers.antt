@@ -5,7 +5,7 @@ use Rattle.hoidrul.specs.Packing.{Fits, Short}
 use Rattle.hoidrul.proofs.count_word.Goals as goal
 
 pub refused-requires : goal.refused-requires
-refused-requires c = subst (λ x. Fits Short (written_reply x)) c.in-Refused.is c.requires
+refused-requires c = subst (λ x. Fits Short (written_reply x)) c.in-Err.is c.requires
 
-pub returns-in-Refused : goal.returns-in-Refused
-returns-in-Refused c = rw c.in-Refused.is c.refused.ensures
+pub returns-in-Err : goal.returns-in-Err
+returns-in-Err c = rw c.in-Err.is c.refused.ensures

@@ -1,7 +1,7 @@
 -- `hoidrul::refused` meets its contract: the parts of the word do not overlap.
 use mathlib.Core.Path.{refl}
 use native.Mathlib.Omega.{arith}
-use Rattle.case_file.proofs.Answers.{number_small}
+use Rattle.case_file.proofs.Refusals.{number_small}
 use Rattle.hoidrul.proofs.refused.Goals as goal
 
 pub overflow_mul-result : goal.overflow_mul-result

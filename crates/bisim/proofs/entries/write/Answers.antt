@@ -14,14 +14,14 @@ loop-s-init c = (omega arith, unfold list_of in laid_none _ 0)
 pub overflow_cast-out : goal.overflow_cast-out
 overflow_cast-out c =
     let s = c.loop-s.s in
-    omega (arith, c.lowest.ensures, first_le (related c.args.rows s) 0 s, c.requires.0)
+    omega (arith, c.lowest.ensures, first_le (related c.args.rows.now s) 0 s, c.requires.0)
 
 pub loop-s-smaller : goal.loop-s-smaller
 loop-s-smaller c = omega arith
 
 pub loop-s-preserved : goal.loop-s-preserved
 loop-s-preserved c =
-    let rows = c.args.rows in
+    let rows = c.args.rows.now in
     let s = c.loop-s.s in
     (omega arith, laid_element (λ u. first (related rows u) 0 u) s c.loop-s.invariant.1 c.lowest.ensures)
 

@@ -1,17 +1,17 @@
 -- `case_plan::parts::put_nodes` meets its contract: the loop writes one node a turn, and what is left is nothing.
-use Prim.Native.Nat.{ℕ}
+use Prim.Native.Nat.{ℕ, ◌+◌, ◌-◌, ◌≤◌, ◌<◌}
+use mathlib.Core.List.{List, ◌++◌}
 use mathlib.Core.Path.{◌≡◌, sym, ap, ◌∙◌}
-use native.Mathlib.Decide.{dec_lt, ℕ_discrete}
-use native.Mathlib.Nat.{not-suc-le-zero}
+use native.Mathlib.Decide.{dec_lt}
 use native.Mathlib.Omega.{arith}
-use lib.ListN.{get_or, replicate, get_or-eq_default, length-replicate, length-set}
-use lib.Seq.{get_or-set_same, get_or-set_other}
-use Rattle.std.proofs.lemmas.List.{get_or-replicate}
+use lib.ListN.{length, get_or, drop, replicate, get_or-eq_default, length-replicate, length-append}
+use Rattle.std.proofs.lemmas.List.{length-drop, get_or-replicate, get_or-drop, get_or_append_left, get_or-append_right}
 use Rattle.case_model.specs.Limits.{most_nodes}
-use Rattle.case_model.specs.Case.{read}
+use Rattle.case_model.specs.Case.{Case, at}
 use Rattle.case_reader.specs.Read.{triple}
 use Rattle.case_reader.specs.declared.parts.Triple.{Triple}
 use Rattle.case_plan.specs.Plans.{nothing}
+use Rattle.case_plan.specs.Parts.{NodesOf}
 use Rattle.case_plan.proofs.parts.put_nodes.Goals as goal
 
 none : (k : ℕ) → get_or (replicate most_nodes nothing) k nothing ≡ nothing
@@ -20,33 +20,19 @@ none k = elim (dec_lt k most_nodes) [
   | no h ↦ get_or-eq_default (replicate most_nodes nothing) nothing {n = k} (omega (arith, length-replicate {A = Triple} most_nodes nothing))
 ]
 
-pub loop-j-init : goal.loop-j-init
-loop-j-init c = record {
-  long = c.told-nodes;
-  put = λ k h. absurd (not-suc-le-zero h);
-  left = λ k h. ap (λ l. get_or l k nothing) c.requires.0 ∙ none k;
-}
-
-pub loop-j-preserved : goal.loop-j-preserved
-loop-j-preserved c =
-    let j = c.loop-j.j in
-    let l = c.loop-j.nodes in
-    let x = c.node.result in record {
-      long = length-set l j x ∙ c.loop-j.invariant.long;
-      put = λ k h. elim (ℕ_discrete k j) [
-        | yes z ↦ rw z (ap triple (get_or-set_same l j x nothing (omega (arith, c.loop-j.invariant.long, c.requires))) ∙ c.node.ensures.is)
-        | no z ↦ ap triple (get_or-set_other l j k x nothing z) ∙ c.loop-j.invariant.put k (omega arith)
-      ];
-      left = λ k h. get_or-set_other l j k x nothing (λ z. omega arith) ∙ c.loop-j.invariant.left k (omega arith);
-    }
-
-pub returns : goal.returns
-returns c = record {
-  long = c.loop-j.invariant.long;
-  are = λ k. elim (dec_lt k c.loop-j.j) [
-    | yes h ↦ c.loop-j.invariant.put k h
+-- the first nodes, and the rest of what was there
+laid : (c : Case) (w items : List Triple) (count : ℕ) → w ≡ replicate most_nodes nothing → count ≡ length c.nodes → count ≤ most_nodes
+    → length items ≡ count → ((k : ℕ) → k < count → triple (get_or items k nothing) ≡ at c.nodes k) → NodesOf c (items ++ drop count w)
+laid c w items count e m most long put = record {
+  long = omega (arith, length-append items (drop count w), length-drop count w, long, ap length e, length-replicate {A = Triple} most_nodes nothing);
+  are = λ k. elim (dec_lt k count) [
+    | yes h ↦ ap triple (get_or_append_left items (drop count w) nothing k (omega arith)) ∙ put k h
     | no h ↦
-        ap triple (c.loop-j.invariant.left k (omega arith))
-        ∙ sym (get_or-eq_default (read c.args.file.now).nodes (0, 0, 0) {n = k} (omega (arith, c.requires.1)))
+        ap triple (get_or-append_right items (drop count w) count k nothing long (omega arith) ∙ get_or-drop count w (k - count) nothing
+        ∙ ap (λ l. get_or l (count + (k - count)) nothing) e ∙ none (count + (k - count)))
+        ∙ sym (get_or-eq_default c.nodes (0, 0, 0) {n = k} (omega arith))
   ];
 }
+
+pub returns : goal.returns
+returns c = laid _ c.args.nodes.now c.loop-j.node-items c.args.count c.requires.0 c.requires.1 c.requires.2 c.loop-j.invariant.long (λ k h. c.loop-j.invariant.put k (omega (arith, c.loop-j.auto.node-items, c.loop-j.invariant.long)))

@@ -1,6 +1,5 @@
 -- `case_plan::parts::put_nodes` meets its contract: the loop writes one node a turn.
-use Rattle.std.proofs.Common.{◌≡◌, ℕ, ◌<◌, ◌≤◌, length, get_or}
-use Rattle.case_model.specs.Limits.{most_nodes}
+use Rattle.std.proofs.Common.{◌≡◌, ℕ, ◌<◌, length, get_or}
 use Rattle.case_model.specs.Case.{read, at}
 use Rattle.case_reader.specs.Read.{triple}
 use Rattle.case_plan.specs.Plans.{nothing}
@@ -8,7 +7,6 @@ use Rattle.case_plan.proofs.parts.put_nodes.Given as goal
 
 abbrev pub invariant-loop-j : goal.invariant-loop-j
 invariant-loop-j l = record {
-  long : length l.nodes ≡ most_nodes;
-  put : (k : ℕ) → k < l.j → triple (get_or l.nodes k nothing) ≡ at (read l.file).nodes k;
-  left : (k : ℕ) → l.j ≤ k → get_or l.nodes k nothing ≡ nothing;
+  long : length l.node-items ≡ l.count;
+  put : (k : ℕ) → k < l.j → triple (get_or l.node-items k nothing) ≡ at (read l.file).nodes k;
 }

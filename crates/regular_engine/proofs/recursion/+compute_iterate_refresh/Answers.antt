@@ -5,8 +5,10 @@ use mathlib.Core.Bool.{Bool}
 use mathlib.Core.List.{List}
 use mathlib.Core.Path.{◌≡◌, ap, ◌∙◌}
 use native.Mathlib.Omega.{arith}
+use Rattle.std.specs.Prelude.{Option}
 use Rattle.flc.specs.Nodes.{bind}
 use Rattle.case_model.specs.Kinds.{Triple}
+use Rattle.case_plan.specs.declared.moves.Direction.{Direction}
 use Rattle.case_plan.specs.Plans.{Plan, decoded}
 use Rattle.case_plan.proofs.KnownNodes.{known, other_kind}
 use Rattle.regular_model.specs.HeldSets.{held_at, Stored}
@@ -41,7 +43,7 @@ compute-iterate-requires t c =
 
 -- ---- iterate
 -- what stands where the rounds begin
-begun : {f : List ℕ} {p : Plan} {w u : List ℕ} {j act : ℕ} (grown : ℕ) {least : Bool} {x : Triple} {m : ℕ}
+begun : {f : List ℕ} {p : Plan} {w u : List ℕ} {j act : ℕ} (grown : Option Direction) {least : Bool} {x : Triple} {m : ℕ}
     → Stated f p → Iterable f p w j act least → x ≡ p.nodes j → m ≡ 2 ^ x.1
     → Stored w u (64 * j) (begins least grown p.states (held_at w (64 * j))) → Begun f p w u j act grown least x m
 begun grown t I e v s = record { stated = t; iterable = I; node = e; mask = v; stored = s }
@@ -71,10 +73,10 @@ iterate-advance-requires t c =
     let B = begun _ (stated c.args.rule.now) c.requires c.node-x.ensures c.variable.ensures c.begin.ensures in
     (omega (arith, (operands_low c.requires c.node-x.ensures).1), binder_room B c.loop.invariant c.refresh.ensures)
 
-pub iterate-returns-then-advance-eq0 : goal.iterate-returns-then-advance-eq0
-iterate-returns-then-advance-eq0 t c =
+pub iterate-returns-then-not-advance : goal.iterate-returns-then-not-advance
+iterate-returns-then-not-advance t c =
     let B = begun _ (stated c.args.rule.now) c.requires c.node-x.ensures c.variable.ensures c.begin.ensures in
-    iterated_early B c.loop.invariant c.refresh.ensures c.advance.ensures c.if-advance-eq0.true
+    iterated_early B c.loop.invariant c.refresh.ensures c.advance.ensures c.if-not-advance.true
 
 pub iterate-loop-preserved : goal.iterate-loop-preserved
 iterate-loop-preserved t c =
@@ -88,7 +90,7 @@ iterate-returns t c =
 
 -- ---- refresh
 -- what stands where the lower nodes are computed
-lowered : {f : List ℕ} {p : Plan} {w y : List ℕ} {k old act grown u : ℕ}
+lowered : {f : List ℕ} {p : Plan} {w y : List ℕ} {k old act : ℕ} {grown : Option Direction} {u : ℕ}
     → Refreshable f p w k old act → (k ≡ 0 → ⊥) → RefreshedBy f p w y (k - 1) old act grown → u ≡ p.scopes (k - 1)
     → Lowered f p w y k old act grown u
 lowered R n l e = record { refreshable = R; some = n; lower = l; scope = e }

@@ -2,7 +2,6 @@
 -- 3j + 1 and 3j. The rounds of a binder are what `TurningBy` says.
 use Prim.Native.Nat.{◌+◌, ◌*◌}
 use Rattle.case_plan.specs.Plans.{decoded}
-use Rattle.regular_engine.specs.Computing.{moved}
 use Rattle.regular_engine.proofs.Rounds.{TurningBy}
 use Rattle.regular_engine.proofs.recursion.+compute_iterate_refresh.Given as goal
 
@@ -17,4 +16,4 @@ decreases-refresh l = 3 * l.k
 
 abbrev pub invariant-iterate-loop : goal.invariant-iterate-loop
 invariant-iterate-loop l =
-    TurningBy l.rule.drive.file.now (decoded l.rule.plan.now) l.initial.work l.work l.j l.act l.least l.counter (moved l.since)
+    TurningBy l.rule.drive.file.now (decoded l.rule.plan.now) l.initial.work l.work l.j l.act l.least l.counter l.since

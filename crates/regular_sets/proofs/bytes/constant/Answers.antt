@@ -1,14 +1,12 @@
--- `regular_sets::bytes::constant` meets its contract: the loop stores one byte a turn.
+-- `regular_sets::bytes::constant` meets its contract: each byte of the set is filled.
+use Rattle.std.proofs.Common.{rules, drop, ◌≡◌, ◌+◌, ◌-◌}
+use mathlib.Core.Path.{refl, ap}
 use native.Mathlib.Omega.{arith}
-use Rattle.case_model.proofs.Filling.{filling_none, turn, filled}
+use Rattle.areas.proofs.Parts.{filled_part}
 use Rattle.regular_sets.proofs.bytes.constant.Goals as goal
 
-pub loop-i-init : goal.loop-i-init
-loop-i-init c = filling_none _ _ _ _
-
-pub loop-i-preserved : goal.loop-i-preserved
-loop-i-preserved c =
-    turn c.loop-i.invariant _ (omega arith) (omega arith) c.constant_byte.ensures
-
 pub returns : goal.returns
-returns c = filled c.loop-i.invariant (omega arith)
+returns c =
+    let k : c.args.c + 32 - c.args.c ≡ 32 = omega arith in
+    filled_part c.fill.new.target refl (ap (λ k. drop k (drop c.args.c c.args.work.now)) k) (omega arith) (search rules) (λ x h.
+    let e = c.fill.ensures.gives x 0 (search rules) in search rules)

@@ -1,21 +1,24 @@
--- `regular_sets::bytes::copy` meets its contract: the loop stores one byte a turn, from bytes that it does not touch.
-use Prim.Native.Nat.{◌+◌}
-use mathlib.Core.Logic.{⊎_elim}
+-- `regular_sets::bytes::copy` meets its contract: the bytes of the one set are copied to the other.
+use Prim.Native.Nat.{◌+◌, ◌-◌, ◌<◌}
+use mathlib.Core.Path.{◌≡◌, ap, ◌∙◌}
 use native.Mathlib.Omega.{arith}
-use Rattle.case_model.proofs.Filling.{filling_none, before, after, turn, filled}
-use Rattle.regular_sets.proofs.ByteLoops.{held_yet}
+use lib.ListN.{get_or}
+use Rattle.case_model.specs.Areas.{from}
+use Rattle.regular_model.proofs.SetBytes.{held_byte}
 use Rattle.regular_sets.proofs.bytes.copy.Goals as goal
 
-pub loop-i-init : goal.loop-i-init
-loop-i-init c = filling_none _ _ _ _
-
-pub loop-i-preserved : goal.loop-i-preserved
-loop-i-preserved c =
-    let s = c.loop-i.invariant in
-    let i = c.loop-i.i in
-    let p = c.args.a + i in
-    let e = ⊎_elim (λ h. before s p (omega arith)) (λ h. after s p (omega arith)) c.requires.2 in
-    turn s _ (omega arith) (omega arith) (held_yet _ c.loop-i.work c.args.a i e (grind arith) (omega arith))
-
 pub returns : goal.returns
-returns c = filled c.loop-i.invariant (omega arith)
+returns c =
+    let (copied, under, over) = c.copy_within.ensures.by_index in
+    let w = c.args.work.now in
+    let at = c.args.c in
+    record {
+      long = c.copy_within.ensures.len;
+      inside = λ x h.
+          let i : c.args.a + (at + x - at) ≡ c.args.a + x = omega arith in
+          let e = copied (at + x) 0 (omega arith) (omega arith) ∙ ap (λ p. get_or w p 0) i in
+          let small : from w c.args.a x < 256 = omega (arith, e, c.type_inv.work (at + x)) in
+          e ∙ held_byte w c.args.a x small h;
+      under = λ p h. under p 0 h;
+      over = λ p h. over p 0 (omega arith);
+    }

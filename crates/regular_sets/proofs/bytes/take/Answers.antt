@@ -1,17 +1,20 @@
--- `regular_sets::bytes::take` meets its contract: the loop copies one byte a turn.
-use mathlib.Core.Path.{refl}
+-- `regular_sets::bytes::take` meets its contract: the bytes that are copied are the set's.
+use Prim.Native.Nat.{◌+◌, ◌-◌}
+use mathlib.Core.Path.{◌≡◌, ap, ◌∙◌}
 use native.Mathlib.Omega.{arith}
-use Rattle.case_model.proofs.Filling.{front_none, front_more}
+use lib.ListN.{get_or, drop}
+use Rattle.std.proofs.lemmas.List.{get_or-take, get_or-drop}
 use Rattle.regular_model.proofs.SetBytes.{held_same}
 use Rattle.regular_sets.proofs.bytes.take.Goals as goal
 
-pub loop-i-init : goal.loop-i-init
-loop-i-init c = front_none _ _
-
-pub loop-i-preserved : goal.loop-i-preserved
-loop-i-preserved c = front_more c.loop-i.invariant (omega arith) refl
-
 pub returns : goal.returns
 returns c =
-    let s = c.loop-i.invariant in
-    record { long = s.long; is = held_same c.args.work.now _ 0 c.args.a (λ i h. s.inside i (omega arith)) }
+    let w = c.args.work.now in
+    let a = c.args.a in
+    record {
+      long = c.copy_from_slice.ensures.len;
+      is = held_same w c.copy_from_slice.new.self 0 a (λ i h.
+          let z : 0 + i ≡ i = omega arith in
+          ap (λ i. get_or c.copy_from_slice.new.self i 0) z ∙ ap (λ l. get_or l i 0) c.copy_from_slice.ensures.after
+          ∙ get_or-take (a + 32 - a) (drop a w) i 0 (omega arith) ∙ get_or-drop a w i 0);
+    }

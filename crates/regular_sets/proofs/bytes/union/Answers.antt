@@ -1,25 +1,18 @@
--- `regular_sets::bytes::union` meets its contract: the loop stores one byte a turn, from lower ones.
-use Prim.Native.Nat.{◌+◌}
-use mathlib.Core.Path.{ap₂, ◌∙◌}
+-- `regular_sets::bytes::union` meets its contract: what is filled from c on is made of bytes below.
+use Rattle.std.proofs.Common.{rules, ◌++◌, drop, get_or, bit_or, ◌≡◌, ◌+◌}
+use mathlib.Core.Path.{ap, ap₂, ◌∙◌}
 use native.Mathlib.Omega.{arith}
-use lib.Bits.{bit_or}
-use Rattle.case_model.proofs.Filling.{filling_none, before, turn, filled}
+use Rattle.areas.proofs.Parts.{filled_part}
 use Rattle.regular_model.proofs.SetBytes.{byte_or}
-use Rattle.regular_sets.proofs.ByteLoops.{held_yet}
+use Rattle.regular_sets.proofs.ByteLoops.{held_below}
 use Rattle.regular_sets.proofs.bytes.union.Goals as goal
 
-pub loop-i-init : goal.loop-i-init
-loop-i-init c = filling_none _ _ _ _
-
-pub loop-i-preserved : goal.loop-i-preserved
-loop-i-preserved c =
-    let s = c.loop-i.invariant in
-    let i = c.loop-i.i in
-    let p = c.args.a + i in
-    let q = c.args.b + i in
-    let e = held_yet c.args.work.now c.loop-i.work c.args.a i (before s p (omega arith)) (omega arith) (omega arith) in
-    let g = held_yet c.args.work.now c.loop-i.work c.args.b i (before s q (omega arith)) (omega arith) (omega arith) in
-    turn s _ (omega arith) (omega arith) (ap₂ bit_or e g ∙ byte_or _ _ _)
-
 pub returns : goal.returns
-returns c = filled c.loop-i.invariant (omega arith)
+returns c =
+    let s = c.split_at_mut-below.ensures in
+    let v = c.split_at_mut-below.result.0.now in
+    let held = held_below c.args.work.now s.front (c.fill.new.target ++ c.split_at_mut-set.result.1.now) (λ p. omega (arith, c.type_inv.work p)) in
+    filled_part _ s.front (c.split_at_mut-set.ensures.back ∙ ap (drop 32) s.back) (omega arith) (search rules) (λ x h.
+    let e = c.fill.ensures.gives x 0 (search rules) in
+    let q : get_or c.fill.new.target x 0 ≡ bit_or (get_or v (c.args.a + x) 0) (get_or v (c.args.b + x) 0) = search rules in
+    q ∙ ap₂ bit_or (held c.args.a x (omega arith) (omega arith) h) (held c.args.b x (omega arith) (omega arith) h) ∙ byte_or _ _ _)

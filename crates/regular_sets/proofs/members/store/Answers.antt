@@ -1,13 +1,12 @@
--- `regular_sets::members::store` meets its contract: one byte a turn.
+-- `regular_sets::members::store` meets its contract: each byte of the set is filled.
+use Rattle.std.proofs.Common.{rules, drop, ◌≡◌, ◌+◌, ◌-◌}
+use mathlib.Core.Path.{refl, ap}
 use native.Mathlib.Omega.{arith}
-use Rattle.case_model.proofs.Filling.{filling_none, turn, filled}
+use Rattle.areas.proofs.Parts.{filled_part}
 use Rattle.regular_sets.proofs.members.store.Goals as goal
 
-pub loop-i-init : goal.loop-i-init
-loop-i-init g c = λ x e. filling_none _ _ _ _
-
-pub loop-i-preserved : goal.loop-i-preserved
-loop-i-preserved g c = λ x e. turn (c.loop-i.invariant x e) _ (omega arith) (omega arith) (c.byte_by.ensures x e)
-
 pub returns : goal.returns
-returns g c = λ x e. filled (c.loop-i.invariant x e) (omega arith)
+returns g c = λ x t.
+    let k : c.args.c + 32 - c.args.c ≡ 32 = omega arith in
+    filled_part c.fill.new.target refl (ap (λ k. drop k (drop c.args.c c.args.work.now)) k) (omega arith) (search rules) (λ i h.
+    let e = c.fill.ensures.gives i 0 (search rules) in search rules)

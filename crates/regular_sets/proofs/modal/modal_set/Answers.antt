@@ -9,4 +9,4 @@ use Rattle.regular_sets.proofs.modal.modal_set.Goals as goal
 pub returns : goal.returns
 returns c =
     let m = c.args.m in
-    stored_as (c.store.ensures _ (λ s b h k. search rules)) (ap (mean_atom (table (read c.args.drive.now.file.now)) (modal m.some m.group)) c.take-x.ensures.is)
+    stored_as (c.store.ensures _ (λ s b h k. search rules)) (ap (mean_atom (table (read c.args.drive.file.now)) (modal m.some m.group)) c.take-x.ensures.is)

@@ -35,7 +35,7 @@ copy-requires c =
 pub fill_two-requires : goal.fill_two-requires
 fill_two-requires c =
     let F = c.requires in
-    (F, operator_is F c.node-x.ensures c.kind_of.ensures c.in-Two.is)
+    record { ready = F; operands = operator_is F c.node-x.ensures c.kind_of.ensures c.in-Two.is }
 
 pub returns-in-Atom : goal.returns-in-Atom
 returns-in-Atom c =

@@ -8,7 +8,7 @@ use Rattle.regular_sets.proofs.Made.{stored_as, full_set, empty_set, other_atom,
 use Rattle.regular_sets.proofs.nodes.fill_atom.Goals as goal
 
 pub constant-requires : goal.constant-requires
-constant-requires c = let D = c.args.drive.now in (omega (arith, D.counted, D.viewed.table.few), c.requires.1)
+constant-requires c = let D = c.args.drive in (omega (arith, D.counted, D.viewed.table.few), c.requires.1)
 
 pub label_set-requires : goal.label_set-requires
 label_set-requires c = (operand_under c.args.a c.in-Proposition.is c.requires.0 refl, c.requires.1)
@@ -18,19 +18,19 @@ label_set-requires-in-Complement c = (operand_under c.args.a c.in-Complement.is 
 
 pub returns-in-Top : goal.returns-in-Top
 returns-in-Top c =
-    let D = c.args.drive.now in
+    let D = c.args.drive in
     let C = read D.file.now in
     atom_stored C c.args.a c.in-Top.is (stored_as c.constant.ensures (full_set C D.counted))
 
 pub returns-in-Proposition : goal.returns-in-Proposition
-returns-in-Proposition c = atom_stored (read c.args.drive.now.file.now) c.args.a c.in-Proposition.is c.label_set.ensures
+returns-in-Proposition c = atom_stored (read c.args.drive.file.now) c.args.a c.in-Proposition.is c.label_set.ensures
 
 pub returns-in-Complement : goal.returns-in-Complement
-returns-in-Complement c = atom_stored (read c.args.drive.now.file.now) c.args.a c.in-Complement.is c.label_set-in-Complement.ensures
+returns-in-Complement c = atom_stored (read c.args.drive.file.now) c.args.a c.in-Complement.is c.label_set-in-Complement.ensures
 
 pub returns-in_default : goal.returns-in_default
 returns-in_default c =
-    let D = c.args.drive.now in
+    let D = c.args.drive in
     let C = read D.file.now in
     let other = c.in_default in
     stored_as c.constant-in_default.ensures (empty_set C D.counted

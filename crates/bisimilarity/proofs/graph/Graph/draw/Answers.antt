@@ -34,4 +34,5 @@ returns c =
     let props : ℕ → Vocabulary → ℕ = λ s W. bit_and (get_or (read case.file.now).labels s 0) W.props in
     let seen = rw c.file-file.ensures at c.looked-seen.ensures in
     let labels = rw c.file-file.ensures at c.labels-labels.ensures in
-    drawn (valid case).table _ (c.states-states.ensures ∙ case.accepted.states) (λ s. labels s ∙ ap (props s) seen) (ap (λ (W : Vocabulary). W.acts) seen) c.requires
+    let states = c.states-states.ensures ∙ case.accepted.states in
+    drawn (valid case).table _ states (λ s. labels s ∙ ap (props s) seen) (ap (λ (W : Vocabulary). W.acts) seen) c.requires

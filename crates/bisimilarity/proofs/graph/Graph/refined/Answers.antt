@@ -1,13 +1,22 @@
--- `bisimilarity::graph::Graph::refined` meets its contract. The loop's invariant: the rows below s are filled.
+-- `bisimilarity::graph::Graph::refined` meets its contract: each state below the count has its row.
+use borrow.Author.Rules.{rules}
+use Prim.Native.Nat.{◌<◌}
+use mathlib.Core.Path.{◌≡◌}
 use native.Mathlib.Omega.{arith}
-use Rattle.case_model.proofs.Filling.{front_none, front_more, front_at}
+use Rattle.flc.specs.Sets.{set_of}
+use Rattle.bisimilarity.specs.Graphs.{table_of}
+use Rattle.bisimilarity.specs.Relations.{kept, related}
+use Rattle.bisimilarity.proofs.Made.{made}
 use Rattle.bisimilarity.proofs.graph.Graph.refined.Goals as goal
 
-pub loop-s-init : goal.loop-s-init
-loop-s-init c = front_none _ _
-
-pub loop-s-preserved : goal.loop-s-preserved
-loop-s-preserved c = front_more c.loop-s.invariant (omega (arith, c.args.self.now.few)) c.left.ensures
-
 pub returns : goal.returns
-returns c = record { row = λ s i. front_at c.loop-s.invariant s (omega arith) }
+returns c =
+    let a = c.args in
+    let n = a.self.now.states in
+    let L = table_of a.self.now in
+    let items = c.from_fn.ensures.items.each in
+    record {
+      row = λ s h.
+          let few = c.args.self.now.few in
+          made (λ x y. x < n → y ≡ set_of n (kept L (related a.rows.now) x)) (λ x y q k. search rules) _ 16 0 items s (omega arith) (omega (arith, h, few)) h;
+    }

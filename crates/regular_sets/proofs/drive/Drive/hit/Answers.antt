@@ -11,5 +11,5 @@ use Rattle.regular_sets.proofs.drive.Drive.hit.Goals as goal
 pub returns : goal.returns
 unfolding hits
 returns c =
-    let steps = (read c.args.self.now.file.now).steps in
+    let steps = (read c.args.self.file.now).steps in
     any_between _ c.args.from c.args.to (λ i. signed c.args.into (has (held_at c.args.x.now 0) (at steps i).2)) c.any.ensures.ran (λ i b q k. search rules)
