@@ -15,7 +15,8 @@ use case_reader::{Kind, Triple, kind_of, node, root, section_offset, section_siz
 use case_writer::{Output, Sizes};
 use law_shapes::Shape;
 
-// What is done at node j of a file, and how many nodes there are then.
+// What is done at node j of a file, and how many nodes there are then. That it is what a law does stands in clauses, and not in the type with the file: the
+// must-fail edit root_left renames by a plan that such a type excludes.
 #[derive(Clone, Copy)]
 pub struct Plan {
     pub shape: Shape,
