@@ -1,7 +1,7 @@
 -- Sets as masks: one state more, the set of one state, sets that meet; a smaller set is a smaller number.
 -- By induction on the width, or digit by digit.
 use mathlib.Core.Path.{◌≡◌, refl, sym, ap, ap₂, ◌∙◌, subst}
-use mathlib.Core.Bool.{Bool, true, false, not, cond}
+use mathlib.Core.Bool.{Bool, true, false, not, cond, ◌&&◌}
 use Prim.Native.Nat.{ℕ, zero, suc, ◌+◌, ◌*◌, ◌^◌, ◌≤◌, ◌<◌, suc-le-suc}
 use native.Mathlib.Numerals.{add-one}
 use native.Mathlib.Omega.{arith}
@@ -75,6 +75,11 @@ compared n a b few p q = bool_ext _ _ there back
     back u =
         let same : take n a ≡ take n b = (bytes_decides (take n a) (take n b)).0 (is_true _ u) in
         for_all_mk n _ (λ i l. subst T (sym (eq-eqb _ _ (sym (get_or-take n a i 0 l) ∙ ap (λ r. get_or r i 0) same ∙ get_or-take n b i 0 l))) tt)
+
+-- one turn of a loop that tests every number
+pub all_more : (p : ℕ → Bool) (k : ℕ) {a b : Bool} → a ≡ for_all k p → b ≡ p k → (a && b) ≡ for_all (k + 1) p
+unfolding for_all both
+all_more p k e q = ap₂ (λ a b. a && b) e q ∙ ap (λ j. for_all j p) (sym (add-one k))
 
 -- ---- sets that meet
 -- a set is not empty exactly if some state is in it

@@ -21,11 +21,19 @@ fn extended(x: u16, t: usize, passed: bool) -> u16
 }
 
 // Is each state of the set `from` related to one of the set `to`? Steps by an action that is not looked at need not be met.
+// A loop that looks at every state, and no `all`: with that, and with `has`, classes took twice the time.
 fn met_by(looked: bool, n: usize, rows: &[u16; 16], from: u16, to: u16) -> bool
     requires { (n ≤ most_states) × (to < 2 ^ n) }
     ensures { result ≡ implies looked (meets n (related rows.now) (has from) (has to)) }
 {
-    !looked || (0..n).all(|u| !has(from as u64, u) || to & rows[u] != 0)
+    if !looked {
+        return true;
+    }
+    let mut all = true;
+    for u in 0..n {
+        all &= ((from >> u) % 2 != 1) | (to & rows[u] != 0);
+    }
+    all
 }
 
 impl Graph {
