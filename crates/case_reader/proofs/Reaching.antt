@@ -1,6 +1,6 @@
 -- The set of the nodes that the root of a valid rule reaches is what spreading from the root makes.
 -- Spreading goes from higher nodes to lower ones, so that a node is in the set or not once and for all when its turn comes.
-use Prim.Native.Nat.{ℕ, zero, suc, ◌/◌, ◌%◌, ◌^◌, ◌≤◌, ◌<◌}
+use Prim.Native.Nat.{ℕ, zero, suc, ◌^◌, ◌≤◌, ◌<◌}
 use mathlib.Core.Bool.{true, false, cond}
 use mathlib.Core.Logic.{◌⊎◌, inl, inr, ⊎_elim}
 use mathlib.Core.Path.{◌≡◌, refl, sym, subst}
@@ -21,15 +21,6 @@ use Rattle.case_model.specs.Valid.{ValidRule}
 use Rattle.case_model.specs.Reach.{Reached, the_root, named, ReachSet}
 use Rattle.case_model.proofs.Nodes.{all_lower, reached_low}
 use Rattle.case_reader.specs.NodeSets.{with_node, with_all, with_named, spread}
-
--- ---- a bit that was looked at
-pub absent : (x j : ℕ) → x / 2 ^ j % 2 ≡ 0 → has x j ≡ false
-unfolding has
-absent x j e = rw e
-
-pub present : (x j : ℕ) → (x / 2 ^ j % 2 ≡ 0 → ⊥) → has x j ≡ true
-unfolding has
-present x j n = eq-eqb (x / 2 ^ j % 2) 1 (elim (ℕ_discrete (x / 2 ^ j % 2) 0) [ yes e ↦ absurd (n e) | no q ↦ omega arith ])
 
 -- ---- one node more
 module _ (x i : ℕ) where
