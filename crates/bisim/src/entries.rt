@@ -22,6 +22,7 @@ fn lowest(rows: &[u16; 16], s: usize) -> usize
     (0..s).find(|t| has(row, *t)).unwrap_or(s)
 }
 
+// By index: s is a state as well as a place.
 fn write(rows: &[u16; 16], n: usize, out: &mut [u8])
     requires { (n ≤ most_states) × (n ≤ length out.old) }
     ensures { Laid out.old out.new 0 n (list_of n (λ s. first (related rows.now s) 0 s)) }

@@ -12,7 +12,7 @@ use case_file::Case;
 use case_reader::has;
 use std::array;
 
-// A set of states below t, with t too if it passed.
+// A set of states below t, with t too if it passed. The sets of `left` and `labelled` grow by it in a `for`: each turn begins with what the last one left.
 fn extended(x: u16, t: usize, passed: bool) -> u16
     requires { (x < 2 ^ t) × (t < most_states) }
     ensures { result ≡ x + cond passed (2 ^ t) 0 }

@@ -8,15 +8,10 @@ use native.Mathlib.Decide.{dec_lt, ℕ_discrete, le_ind}
 use native.Mathlib.Nat.{not-suc-le-zero}
 use native.Mathlib.Numerals.{add-one}
 use native.Mathlib.Omega.{arith}
-use mir.Val.{bool_byte}
 use lib.Dec.{T}
 use lib.ListN.{length, get_or, length-append, get_or-append}
 use lib.Seq.{get_or_at}
 use Rattle.case_model.specs.Merging.{chosen, selected}
-
-chosen_byte : {A : Type 0} (b : Bool) (a : A) → bool_byte b ≡ length (chosen b a)
-chosen_byte true a = refl
-chosen_byte false a = refl
 
 chosen_few : {A : Type 0} (b : Bool) (a : A) → length (chosen b a) ≤ 1
 chosen_few true a = omega arith
@@ -36,10 +31,6 @@ module _ {A : Type 0} (p : ℕ → Bool) (h : ℕ → A) where
 
   selected_longer : (n : ℕ) → length (selected (n + 1) p h) ≡ length (selected n p h) + length (chosen (p n) (h n))
   selected_longer n = ap length (selected_more n) ∙ length-append (selected n p h) (chosen (p n) (h n))
-
-  -- one turn of counting
-  pub selected-counted : (n k : ℕ) (b : Bool) → k ≡ length (selected n p h) → b ≡ p n → k + bool_byte b ≡ length (selected (n + 1) p h)
-  selected-counted n k b e q = rw (selected_longer n, e, chosen_byte b (h n), q)
 
   pub selected_few : (n : ℕ) → length (selected n p h) ≤ n
   unfolding selected

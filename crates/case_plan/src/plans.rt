@@ -6,6 +6,7 @@ ghost use Rattle.case_plan.specs.Plans.{decoded};
 
 use case_reader::Triple;
 
+// Arrays of the most entries that there can be, with a count beside them: judging allocates nothing.
 #[derive(Drop)]
 pub struct Plan {
     // n.

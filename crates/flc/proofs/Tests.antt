@@ -9,8 +9,8 @@ use native.Mathlib.Decide.{ℕ_discrete}
 use native.Mathlib.Omega.{arith}
 use lib.Dec.{T}
 use Rattle.flc.specs.Sets.{both, either, implies, for_all, for_some, among, first}
-
 -- so that the examples come first, and a slip in a definition is reported there
+use Rattle.flc.proofs.Examples as examples
 
 -- ---- connectives: `use`, `left`, `right` take a passed test apart, `mk` passes it
 

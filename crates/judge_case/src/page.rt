@@ -40,7 +40,7 @@ impl fmt::Display for Lines {
     }
 }
 
-// Judging's reply on a case of so many states, with whether every start state holds.
+// Judging's reply on a case of so many states, with whether every start state holds. No `Result`: `Display` is written for a type of one's own.
 #[derive(Clone, Copy)]
 pub(crate) enum Page {
     Verdict {

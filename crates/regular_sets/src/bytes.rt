@@ -87,7 +87,7 @@ pub(crate) fn take(work: &[u8], a: usize) -> [u8; 32]
     x
 }
 
-// Has it state t?
+// Has it state t? No `has`, which takes a number: 32 bytes are none.
 pub(crate) fn member(x: &[u8; 32], t: usize) -> bool
     requires { (t < 256) × (length x.now ≡ 32) }
     ensures { result ≡ has (held_at x.now 0) t }

@@ -10,7 +10,7 @@ use crate::words::{chop, constant, identity, intersection, union};
 use case_plan::Plan;
 use case_reader::{Atom, Operator};
 
-// An atom with its operand a.
+// An atom with its operand a. That the plan is one with sizes (`Sized`) is asked for, and no invariant of it: the plan of a regular rule has none.
 pub fn fill_atom(work: &mut [u16], plan: &Plan, atom: Atom, a: usize, c: usize)
     requires { Sized (decoded plan.now) × ((j : ℕ) → fits (operand_of atom) j a ≡ true) × (c + (decoded plan.now).size ≤ length work.old) }
     ensures { AtomFilled (decoded plan.now) work.old work.new c (atom_with atom a) }

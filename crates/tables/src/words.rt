@@ -1,4 +1,5 @@
-// Tables in the work area. A table is `count` words from a base on; each function fills one from others, entry by entry.
+// Tables in the work area. A table is `count` words from a base on; each function fills one from others, entry by entry. Where the tables lie is told at each
+// call: all are in one area, and which lies below which differs from call to call.
 ghost use Rattle.std.specs.Prelude.{◌≡◌, ℕ, ◌+◌, ◌≤◌, ◌<◌, length, replicate};
 ghost use Rattle.std.specs.Int.Bits.{bit_or, bit_and};
 ghost use Rattle.case_model.specs.Areas.{Filled, from};
