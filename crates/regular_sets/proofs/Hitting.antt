@@ -1,20 +1,54 @@
--- Looking for a step that decides, action by action: the actions of a group are among those that are looked at.
+-- Looking for a step that decides, place by place and action by action: one turn of the search from a place on, and its ends; the actions of a group are
+-- among those that are looked at.
 use Prim.Native.Nat.{ℕ, ◌+◌, ◌-◌, ◌≤◌, ◌<◌}
-use mathlib.Core.Bool.{Bool, false}
+use mathlib.Core.Bool.{Bool, true, false}
 use mathlib.Core.List.{List}
-use mathlib.Core.Path.{◌≡◌, subst}
-use native.Mathlib.Decide.{dec_lt}
+use mathlib.Core.Path.{◌≡◌, sym, subst}
+use native.Mathlib.Decide.{ℕ_discrete, dec_lt}
 use native.Mathlib.Omega.{arith}
 use lib.Dec.{T}
 use Rattle.flc.specs.Sets.{for_some, has}
+use Rattle.flc.specs.Order.{signed}
 use Rattle.flc.proofs.Tests.{bool_ext, both_left, for_some_use, for_some_mk}
 use Rattle.case_model.specs.Kinds.{Triple}
-use Rattle.regular_model.specs.StepGroups.{hits_by}
+use Rattle.case_model.specs.Case.{at}
+use Rattle.case_model.proofs.Tests.{is_true}
+use Rattle.regular_model.specs.StepGroups.{hits, hits_by}
 use Rattle.regular_sets.specs.Views.{decided}
 
 not_T : {b : Bool} → b ≡ false → T b → ⊥
 not_T e t = subst T e t
 
+-- ---- places
+module _ (l : List Triple) (x : ℕ) (d : Bool) (i to : ℕ) where
+  abbrev place : ℕ → Bool
+  place k = signed d (has x (at l k).2)
+
+  moved : (k j : ℕ) → k ≡ j → T (place k) → T (place j)
+  moved k j e t = subst (λ k. T (place k)) e t
+
+  pub hits_yes : i < to → signed d (has x (at l i).2) ≡ true → hits l x d i to ≡ true
+  unfolding hits
+  hits_yes h e = is_true _ (for_some_mk (to - i) (λ k. place (i + k)) 0 (omega arith) (moved i (i + 0) (omega arith) (subst T (sym e) tt)))
+
+  pub hits_on : signed d (has x (at l i).2) ≡ false → hits l x d i to ≡ hits l x d (i + 1) to
+  unfolding hits
+  hits_on e = bool_ext _ _
+      (λ t.
+      let (k, h, u) = for_some_use (to - i) (λ k. place (i + k)) t in
+      elim (ℕ_discrete k 0) [
+        | yes q ↦ absurd (not_T e (moved (i + k) i (omega (arith, q)) u))
+        | no q ↦ for_some_mk (to - (i + 1)) (λ k. place (i + 1 + k)) (k - 1) (omega (arith, q)) (moved (i + k) (i + 1 + (k - 1)) (omega (arith, q)) u)
+      ])
+      (λ t.
+      let (k, h, u) = for_some_use (to - (i + 1)) (λ k. place (i + 1 + k)) t in
+      for_some_mk (to - i) (λ k. place (i + k)) (k + 1) (omega arith) (moved (i + 1 + k) (i + (k + 1)) (omega arith) u))
+
+  pub hits-end : to ≤ i → hits l x d i to ≡ false
+  unfolding hits for_some
+  hits-end h = let z : to - i ≡ 0 = omega arith in rw z
+
+-- ---- actions
 module _ (l : List Triple) (x : ℕ) (d : Bool) (g s : ℕ) where
   -- looking at the actions from `first` up to `last` is enough if the group has no others
   pub hits_among : (first last : ℕ) → last ≤ 8 → ((a : ℕ) → a < first → has g a ≡ false) → ((a : ℕ) → last ≤ a → a < 8 → has g a ≡ false)

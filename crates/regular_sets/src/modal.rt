@@ -93,7 +93,13 @@ impl Drive<'_> {
         requires { to ≤ length (read self.file.now).steps }
         ensures { result ≡ hits (read self.entry.file.now).steps (held_at x.now 0) into from to }
     {
-        (from..to).any(|i| member(x, self.target(i)) == into)
+        // A `for`, and no `any`: that was tried and took 1.1 of the time.
+        for i in from..to {
+            if member(x, self.target(i)) == into {
+                return true;
+            }
+        }
+        false
     }
 
     // The same for the steps of state s by action a, if the group has it.
