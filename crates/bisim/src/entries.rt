@@ -33,6 +33,7 @@ fn write(rows: &[u16; 16], n: usize, out: &mut [u8])
 }
 
 // How many bytes are written of a result of n bytes: all, or none where there is no room.
+// A number, 0 where it is refused: one call of `write` serves both replies, and one equation says what is written.
 fn served(n: usize, room: usize) -> usize
     ensures { result ≡ cond (leb n room) n 0 }
 {

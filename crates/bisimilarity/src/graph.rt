@@ -13,6 +13,7 @@ use std::array;
 use vocabulary::looked;
 
 // Of at most 16 states, with no step to another number.
+// Arrays of the most states that there can be, with their count beside them: nothing is allocated.
 #[derive(Clone, Copy)]
 pub struct Graph {
     pub(crate) states: usize,

@@ -22,6 +22,7 @@ fn extended(x: u16, t: usize, passed: bool) -> u16
 
 // Is each state of the set `from` related to one of the set `to`? Steps by an action that is not looked at need not be met.
 // A loop that looks at every state, and no `all`: with that, and with `has`, classes took twice the time.
+// Five values, one flag among them, and no struct: each call has others, and they are the arguments of the clause.
 fn met_by(looked: bool, n: usize, rows: &[u16; 16], from: u16, to: u16) -> bool
     requires { (n ≤ most_states) × (to < 2 ^ n) }
     ensures { result ≡ implies looked (meets n (related rows.now) (has from) (has to)) }
@@ -38,6 +39,7 @@ fn met_by(looked: bool, n: usize, rows: &[u16; 16], from: u16, to: u16) -> bool
 
 impl Graph {
     // Is each step of s met by a step of t?
+    // That s and t are states stands at each: a type for it would have to hold the graph. The rows change from round to round, the graph does not.
     fn met(&self, rows: &[u16; 16], s: usize, t: usize) -> bool
         requires { (s < self.now.states) × (t < self.now.states) }
         ensures { result ≡ met (table_of self.now) (related rows.now) s t }
@@ -59,6 +61,7 @@ impl Graph {
     }
 
     // What is left of the row of s.
+    // Beside `labelled`: `kept` asks that t is a state, so that with a closure for the test the clause would have to say for which t.
     fn left(&self, rows: &[u16; 16], s: usize) -> u16
         requires { s < self.now.states }
         ensures { result ≡ set_of self.now.states (kept (table_of self.now) (related rows.now) s) }
@@ -71,6 +74,7 @@ impl Graph {
     }
 
     // One refinement: every pair is tested against the same rows.
+    // Beside `start`, and not one with it, for the same reason: `left` and `labelled` ask that s is a state.
     fn refined(&self, rows: &[u16; 16]) -> [u16; 16]
         ensures { Rows self.now.states result (kept (table_of self.now) (related rows.now)) }
     {

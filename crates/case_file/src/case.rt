@@ -40,6 +40,27 @@ impl Case<'_> {
     pub const PROPOSITIONS: usize = Kind::PROPOSITIONS;
 
     pub const VARIABLES: usize = Kind::VARIABLES;
+
+    // Row 8: is this the number of a set of the case's states? A shift by their count leaves nothing of one; from 64 states on, every number is one.
+    pub fn has_set(self, set: usize) -> bool
+        ensures { result ≡ ltb set (2 ^ self.entry.counts.states) }
+    {
+        let n = self.counts.states;
+        if n < 64 { set >> n == 0 } else { true }
+    }
+
+    // Row 9: are there words enough for two tables a node, each with a word for every set? By a shift too, which no count makes overflow.
+    pub fn has_area(self, words: usize) -> bool
+        ensures { result ≡ leb (2 * self.entry.counts.nodes * 2 ^ self.entry.counts.states) words }
+    {
+        let n = self.counts.states;
+        let m = self.counts.nodes;
+        if n < 63 {
+            m <= words >> (n + 1)
+        } else {
+            m == 0
+        }
+    }
 }
 
 impl<'a, const LONGEST: usize, const STATES: usize> CaseWithin<'a, LONGEST, STATES> {
@@ -71,26 +92,5 @@ impl<'a, const LONGEST: usize, const STATES: usize> CaseWithin<'a, LONGEST, STAT
         ensures { result ≡ self.entry.counts.nodes }
     {
         self.counts.nodes
-    }
-
-    // Row 8: is this the number of a set of the case's states? A shift by their count leaves nothing of one; from 64 states on, every number is one.
-    pub fn has_set(self, set: usize) -> bool
-        ensures { result ≡ ltb set (2 ^ self.entry.counts.states) }
-    {
-        let n = self.counts.states;
-        if n < 64 { set >> n == 0 } else { true }
-    }
-
-    // Row 9: are there words enough for two tables a node, each with a word for every set? By a shift too, which no count makes overflow.
-    pub fn has_area(self, words: usize) -> bool
-        ensures { result ≡ leb (2 * self.entry.counts.nodes * 2 ^ self.entry.counts.states) words }
-    {
-        let n = self.counts.states;
-        let m = self.counts.nodes;
-        if n < 63 {
-            m <= words >> (n + 1)
-        } else {
-            m == 0
-        }
     }
 }

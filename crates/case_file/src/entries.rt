@@ -22,6 +22,7 @@ pub fn vet(file: &[u8], section: usize) -> Result<Counts, Refusal>
 }
 
 // A section as that part of the file, or an empty part where vetting refuses.
+// No Result: the public `open` could not fail, so it still can't; `vet` tells the refusal.
 pub fn open(file: &[u8], section: usize) -> &[u8]
     ensures { Opened file.entry result section }
 {

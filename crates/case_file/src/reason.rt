@@ -29,6 +29,7 @@ pub struct Refusal {
 
 impl Refusal {
     // The number of the refusal.
+    // A method, and no From: a refusal has a place beside its number, and the public method keeps its promise.
     pub fn number(self) -> u64
         ensures { result ≡ number self.reason }
     {

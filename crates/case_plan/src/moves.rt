@@ -12,6 +12,7 @@ pub enum Direction {
 
 impl Direction {
     // The direction of a binder, by its kind.
+    // A name, and no From<bool>, which would not say which of the two is up.
     pub fn of(least: bool) -> Self
         ensures { result ≡ direction least }
     {
@@ -31,6 +32,7 @@ impl Direction {
 }
 
 // The set of one variable.
+// Wider than case_reader's `single`, for the marks of a scope lie above the variables; that one takes any v.
 pub fn variable(v: usize) -> u32
     requires { v < variables }
     ensures { result ≡ 2 ^ v }

@@ -28,6 +28,7 @@ fn scope_of(free: u16, reached: bool) -> u32
 }
 
 // The scope of each node.
+// A loop, in the form of put_nodes and labelled beside it, which write in place.
 pub(crate) fn scopes(frees: &[u16; 64], reached: u64) -> [u32; 64]
     ensures { (j : ℕ) → j < most_nodes → get_or result j 0 ≡ scope_of (get_or frees.now j 0) (has reached j) }
 {
@@ -53,6 +54,7 @@ pub(crate) fn binders(nodes: &[Triple]) -> [usize; 16]
 }
 
 // The states that have each proposition. Each label is read once.
+// So the loop goes over states, and a proposition's set grows in place: made one by one, each set would read all labels.
 pub(crate) fn labelled(file: &[u8], states: usize) -> [u16; 8]
     requires { states ≤ most_states }
     ensures { (i : ℕ) → i < propositions → get_or result i 0 ≡ labelled (read file.now) states i }

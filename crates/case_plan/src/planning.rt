@@ -1,4 +1,5 @@
 // The plan of an accepted case, and that of its rule alone.
+// A file with what is asked of it, and no case: case_plan does not stand on case_file, and plans the cases of both its limits.
 ghost use Rattle.std.specs.Prelude.{◌≡◌, ◌≤◌};
 ghost use Rattle.case_model.specs.Limits.{standard};
 ghost use Rattle.case_model.specs.Case.{read};
@@ -38,6 +39,7 @@ fn with_table(file: &[u8], size: usize, props: [u16; 8], sources: [u16; 128]) ->
 }
 
 // For any number of states: without size, limit and state table.
+// Zeros for what is missing, and no type of its own: all that is said of a plan's rule would stand twice, for each type.
 pub fn plan_rule(file: &[u8]) -> Plan
     requires { ValidRule (read file.now) }
     ensures { RulePlanned (read file.now) (decoded result) }

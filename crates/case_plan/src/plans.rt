@@ -7,6 +7,7 @@ ghost use Rattle.case_plan.specs.Plans.{decoded};
 use case_reader::Triple;
 
 // Arrays of the most entries that there can be, with a count beside them: judging allocates nothing.
+// Nodes and scopes are two arrays, and not one of pairs: each is filled by a function with a clause on it alone.
 #[derive(Drop)]
 pub struct Plan {
     // n.
@@ -32,6 +33,7 @@ pub struct Plan {
 }
 
 // The mark in a scope that each node has.
+// Marks, and no flags beside the set: as members of it they are asked for by the engines' one test of sets, with the variables.
 pub const EVERY: u32 = 65536;
 
 // That of a node which the root does not reach.

@@ -57,6 +57,7 @@ fn below(t: &mut [u16; 64], file: &[u8], j: usize)
 }
 
 // Those of each node of a file, of the first 64 if it has more.
+// An array of the most nodes that there can be: nothing is allocated.
 pub fn masks(file: &[u8]) -> [u16; 64]
     ensures { result ≡ free_sets (read file.now) }
 {

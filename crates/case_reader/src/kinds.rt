@@ -8,6 +8,7 @@ ghost use Rattle.case_reader.specs.NodeKinds.{op_of, line_of, Decodes};
 use crate::parts::Triple;
 
 // What is constant, τ; and the modalities, of some step if true, else of all steps: those of one action and those of a group of actions.
+// The flags are bool, as in `modal` and `fix` of the logic (flc), beside which contracts set them: an enum would be turned into them at each.
 #[derive(Clone, Copy, PartialEq, Eq)]
 pub enum Atom {
     Top,
@@ -36,6 +37,7 @@ impl From<Operator> for usize {
 }
 
 // A leaf, which names no node: an atom or a variable; a node that names two; or a binder, of the least fixed point if true, else of the greatest.
+// Without operands, which stay in the triple: `kind_of` promises the table's line of t.0 for any triple, and that line has none.
 #[derive(Clone, Copy, PartialEq, Eq)]
 pub enum Kind {
     Atom(Atom),
@@ -88,6 +90,7 @@ impl TryFrom<usize> for Kind {
 }
 
 // The line of the table that a triple has; past the table's end, a constant.
+// No Result: a public function that could not fail still can't. `Kind::try_from` stands beside it.
 #[tactic(auto, using(crate::proofs::Knowing::by_number))]
 pub fn kind_of(t: Triple) -> Kind
     ensures { line_of result ≡ kind_at t.0 }
@@ -103,6 +106,7 @@ pub fn is_binder(t: Triple) -> bool
 
 // Row 5, for node j. The lines are the productions of the grammar line of source document 000, section 2, in its order, q as its four kinds; then the two
 // kinds of groups, which that line does not have. A line is tried only if those before it did not fit.
+// By numbers, one test a line, and no match on Kind: docs/SPECIFICATION.md, clause 11.6, fixes the order of the tests.
 pub fn node_holds(j: usize, t: Triple) -> bool
     ensures { result ≡ node_holds j (triple t) }
 {

@@ -25,6 +25,7 @@ pub fn section_offset(file: &[u8], section: usize) -> usize
     }
 }
 
+// Like section_offset: two names for two halves of a pair; a function with the half as a parameter is no shorter.
 pub fn section_size(file: &[u8], section: usize) -> usize
     ensures { Is (cond (ltb section sections) (size file.now section) 0) 65536 result }
 {

@@ -4,6 +4,7 @@ ghost use Rattle.flc.specs.Sets.{set_of, has};
 ghost use Rattle.case_model.specs.Limits.{most_states};
 
 // The set of all of n states; of more than a mask has bits, any set.
+// No Option: the program asks before vetting, and it could not fail before.
 pub fn all_states(n: usize) -> u16
     ensures { n ≤ most_states → result ≡ set_of n (λ s. true) }
 {

@@ -1,5 +1,6 @@
 // The steps between states below 16 as a relation in 128 rows of masks: bit t of row 8s + a is the step (s, a, t). Other steps have no place in it.
 // Turned round, each step goes from its end to its start, and a row has the states with a step to one.
+// One array, and no array of arrays: the definition `relation`, which theorems stand on, has row 8s + a; and arrays, since nothing is allocated.
 ghost use Rattle.std.specs.Prelude.{◌≡◌, ◌<◌};
 ghost use Rattle.case_model.specs.Case.{read};
 ghost use Rattle.case_reader.specs.Read.{triple};
@@ -39,6 +40,7 @@ pub fn mark(rows: &mut [u16; 128], x: Triple)
 }
 
 // The steps of a file, from the last to the first; turned round if asked.
+// A flag, as in `steps_read`, which the contract cites: a closure that turns a step would need a clause of what it does.
 pub fn step_rows(file: &[u8], turned: bool) -> [u16; 128]
     ensures { StepRows (steps_read turned (read file.now).steps) result }
 {

@@ -8,12 +8,14 @@ ghost use Rattle.case_writer.specs.Writing.{Writes, total};
 use case_reader::Triple;
 
 // The area, and how many of its bytes are written.
+// A lent area, and no Vec: it is the caller's for C, and nothing is allocated.
 #[derive(Drop)]
 pub struct Output<'a> {
     area: &'a mut [u8],
     at: usize,
 }
 
+// How much room is left stands at each method, for each needs another length.
 impl<'a> Output<'a> {
     pub fn new(area: &'a mut [u8]) -> Output<'a>
         ensures same_area { result.area.ghost_name ≡ area.entry.ghost_name }

@@ -9,6 +9,7 @@ use case_reader::{Kind, kind_of};
 use tables::advance;
 
 // A binder: its node, whether it is of the least fixed point, its variable and its body.
+// `least` is the flag of `Kind::Binder`: both its direction and its first approximant are made of it.
 #[derive(Clone, Copy)]
 pub struct Binder {
     pub node: usize,
@@ -22,6 +23,7 @@ impl Blocks<'_> {
     // `grown` is the direction in which one binder's table alone has moved since they were last computed.
     // Why it is right: a node names lower ones only, and depends on what these depend on, so that they are right when its turn comes; one that
     // depends only on the old is right already; and one that depends on more than what is active is used by none that is computed.
+    // Four values beside self, and no struct: each call has others.
     #[cycle(compute_refresh_round_rounds)]
     pub(crate) fn refresh(&mut self, k: usize, old: u32, act: u32, grown: Option<Direction>)
         requires { Refreshable (decoded self.old.plan.now) self.old.work.now k old act grown }

@@ -47,6 +47,7 @@ pub extern "C" fn hoidrul_open(file: &[u8], section: usize) -> u64
     (offset * 4294967296 + size) as u64
 }
 
+// Like count_word and hoidrul_vet: two arms, of which a function with a closure for the first would make no fewer.
 fn verdict_word(judged: Result<Verdict, Refusal>) -> u64
     requires { Fits Brief (judged_reply judged) }
     ensures { result ≡ packed verdict_word (judged_reply judged) }

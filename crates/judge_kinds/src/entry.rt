@@ -27,6 +27,7 @@ fn judge_exchanged(
     ensures result_value { judged_reply result ≡ judging (exchanged kinds.now file.now) set (length work.old) }
     ensures work_after { work.new ≡ cleared (judging (exchanged kinds.now file.now) set (length work.old)) work.old }
 {
+    // As long as the longest case: nothing is allocated.
     let mut copy = [0u8; Case::LONGEST];
     exchange(kinds, file, &mut copy);
     let size = file.len();
@@ -46,6 +47,7 @@ pub fn judge_kinds(
     if !is_permutation(kinds, KINDS) {
         return Err(Reason::Table.into());
     }
+    // Written out as in case_file's `vet`: a constant for both would be one more public name, of two numbers that have names.
     let limits = Limits {
         longest: Case::LONGEST,
         states: Case::STATES,

@@ -1,4 +1,5 @@
 // A copy of a file, with the kinds of its nodes exchanged by a table.
+// That row 1 does not refuse the file is said at three functions, and by no type: what is made of the file is bytes, and no case.
 ghost use Rattle.std.specs.Prelude.{true, ◌≡◌, ◌/◌, ◌≤◌, length, take};
 ghost use Rattle.case_model.specs.Areas.{Filled};
 ghost use Rattle.case_model.specs.Bytes.{size, pairs_hold};
@@ -17,6 +18,7 @@ fn stands_for(kinds: &[u8], kind: u8) -> u8
 }
 
 // The kinds of the nodes, into an area that has the file at its front.
+// By index: a kind byte has one place, at which it is read in the file and written in the copy.
 fn put_kinds(kinds: &[u8], file: &[u8], out: &mut [u8])
     requires file_value { (pairs_hold standard file.now ≡ true) × Filled out.old out.old 0 (length file.now) (exchanged_byte kinds.now file.now 0) }
     requires file_in_bounds { length file.now ≤ length out.old }

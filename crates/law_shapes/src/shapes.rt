@@ -68,6 +68,7 @@ fn two(operator: Operator, a: usize, b: usize) -> Triple
 
 // Law `law`, if it is one, at node j, which is n and names x first and y second. A number, and no enum: the laws have numbers in the specification and for
 // C, and this is their one table.
+// Five values, and no struct: one function calls it, and the table's lines name each.
 fn shape_of(law: usize, j: usize, n: Triple, x: Triple, y: Triple) -> Option<Shape>
     requires { j < most_nodes }
     ensures { Does j result (get_or (nothing ∷ laws_at j (triple n) (triple x) (triple y)) law nothing) }

@@ -13,6 +13,7 @@ use merged_starts::{merged_starts, put_starts};
 use merged_steps::{Pair, count, merged_rows, put_steps};
 
 // The head, the labels without the removed one, the steps, the rule and the start states.
+// Six values, that `merge_pair` alone hands on: a struct of them would be made once and taken apart here.
 fn put_merged(
     file: &[u8],
     pair: Pair,
@@ -37,6 +38,7 @@ fn put_merged(
 }
 
 // The same at the start of an area.
+// Like rewritten_file's `write`: two lines, which a function with a closure for the second would not make fewer.
 #[tactic(auto, using(case_writer::proofs::Runs::written_first))]
 fn write_merged(
     file: &[u8],

@@ -1,4 +1,5 @@
 // The start states of the merged case: as a set, in which repeats are one, and from it in rising order.
+// Like merged_steps, for one set: what is marked, counted and written differs (a state, a triple), so that a trait for both is no plainer.
 ghost use Rattle.std.specs.Prelude.{◌≡◌, ◌+◌, ◌≤◌, length};
 ghost use Rattle.case_model.specs.Case.{read};
 ghost use Rattle.case_writer.specs.Writing.{Writes};
@@ -10,6 +11,7 @@ use case_writer::Output;
 use merged_steps::Pair;
 
 // The states that stand for start states.
+// A loop, and no fold: the set so far has a name, of which its clause speaks; a fold's closure would need a clause of its own.
 pub fn merged_starts(file: &[u8], pair: Pair) -> u16
     requires { Small (read file.now) pair }
     ensures { result ≡ start_set (read file.now) pair }

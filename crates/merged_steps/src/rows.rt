@@ -41,6 +41,7 @@ impl Pair {
 }
 
 // The triple with the number x.
+// No From: the type is case_reader's, and the number is one among 16 states and 8 actions alone.
 fn numbered(x: usize) -> Triple
     ensures { (result.0 ≡ x / 128) × (result.1 ≡ x / 16 % 8) × (result.2 ≡ x % 16) }
 {

@@ -17,6 +17,7 @@ use regular_profile::is_regular;
 const SET: usize = 32;
 
 // The set that lies at a place of the work area, to the front of the output area.
+// By its place, and not as a part: the clause speaks of the set held there (`held_at`).
 fn write_set(work: &[u8], at: usize, out: &mut [u8])
     requires { (at + 32 ≤ length work.now) × (32 ≤ length out.old) }
     ensures { Laid out.old out.new 0 32 (set_bytes (held_at work.now at)) }

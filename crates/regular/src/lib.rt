@@ -4,5 +4,5 @@
 mod case;
 mod entry;
 
-pub use case::{LargeCase, has_area};
+pub use case::{LONGEST, LargeCase, STATES, has_area};
 pub use entry::regular;

@@ -1,4 +1,5 @@
 // The sets of all nodes, by recursion over nodes with the number falling, as clause 11.5 has it; those of binders by iterates.
+// Like engine's recursion: a trait for both would need laws for areas, values and rounds, which are more than these three functions.
 ghost use Rattle.case_plan.specs.Plans.{decoded};
 ghost use Rattle.regular_engine.specs.Computing.{Refreshable, RefreshedBy, Computable, ComputedBy, Iterable};
 
@@ -9,6 +10,7 @@ use regular_sets::{Rule, advance, fill};
 
 // Computes the nodes below k that depend only on what is in `act`, and not only on what is in `old`.
 // `grown` is the direction in which one binder's set alone has moved since they were last computed; if there is none, they start anew.
+// Work and rule are no struct as engine's Blocks: its methods each say that plan and reference stay, which `&Rule` says by itself.
 #[cycle(compute_iterate_refresh)]
 pub(crate) fn refresh(
     work: &mut [u8],

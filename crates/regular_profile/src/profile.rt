@@ -59,6 +59,7 @@ fn node_suits(file: &[u8], j: usize) -> bool
 }
 
 // Is the rule of an accepted case regular?
+// A file, and no case: regular_profile does not stand on case_file.
 pub fn is_regular(file: &[u8]) -> bool
     requires { ValidRule (read file.now) }
     ensures { result ≡ regular (rule (read file.now)) }

@@ -1,4 +1,5 @@
 // Sets in the byte area: 32 bytes from a base on, state 0 the lowest bit of the first. Each function stores one made of others, byte by byte.
+// Beside tables' words.rt: there an entry is a set, here 32 bytes are one, and the clauses say so; what both share is in areas. Places go as there.
 ghost use Rattle.std.specs.Prelude.{true, ◌⊎◌, ◌≡◌, ◌+◌, ◌*◌, ◌≤◌, ◌<◌, length};
 ghost use Rattle.std.specs.Int.Bits.{bit_or, bit_and};
 ghost use Rattle.flc.specs.Sets.{has, set_of};

@@ -10,6 +10,7 @@ use crate::drive::Drive;
 use crate::members::store;
 use case_reader::{has, label};
 
+// A flag, as in `label_atom` of the contracts: it is compared with the answer of `has`, and nothing hangs on it.
 impl Drive<'_> {
     // Has the label of state s proposition p, or with the flag false: has it not? Of no state, no.
     fn labelled(self, p: usize, with: bool, s: usize) -> bool

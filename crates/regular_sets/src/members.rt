@@ -7,6 +7,7 @@ ghost use Rattle.regular_sets.specs.Views.{Tells};
 use areas::fill;
 
 // Byte i: those of the states 8i to 8i + 7, the lowest in its lowest bit.
+// A loop, and no fold: the test is a closure already, and a second one around it would need a clause on the bits so far.
 fn byte_by<F: Fn(usize) -> bool>(test: &F, i: usize) -> u8
     requires callable { F.IsAlwaysCallable test.now }
     requires inside { i < 32 }

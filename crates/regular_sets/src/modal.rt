@@ -57,6 +57,7 @@ fn by_group(some: bool, group: usize) -> Modality
 }
 
 // The modality that an atom with its operand a is; of another atom, one by no action.
+// No Option: the model's `modality_in` gives every atom one, and a regular rule has only modalities on the left of a chop.
 fn modality_in(atom: Atom, a: usize) -> Modality
     requires { (j : ℕ) → fits (operand_of atom) j a ≡ true }
     ensures { logic.modal result.some result.group ≡ modality_in (atom_with atom a) }
@@ -89,6 +90,7 @@ impl Drive<'_> {
     }
 
     // Does a step from place `from` up to `to` lead into the set, or out of it?
+    // Beside the drive go the values that change from call to call.
     fn hit(self, from: usize, to: usize, x: &[u8; 32], into: bool) -> bool
         requires { to ≤ length (read self.file.now).steps }
         ensures { result ≡ hits (read self.entry.file.now).steps (held_at x.now 0) into from to }

@@ -26,6 +26,7 @@ pub struct Rule<'a> {
 }
 
 // An atom with its operand a; τ and the modalities have no set of their own.
+// Like tables' fill.rt by its arms alone: what is called in each has other clauses, so that a trait for both would be the longer.
 fn fill_atom(work: &mut [u8], drive: Drive, atom: Atom, a: usize, c: usize)
     requires { ((j : ℕ) → fits (operand_of atom) j a ≡ true) × (c + 32 ≤ length work.old) }
     ensures { Stored work.old work.new c (mean_atom (table (read drive.entry.file.now)) (constant_of (atom_with atom a)) 0) }

@@ -26,6 +26,7 @@ fn next(file: &[u8], from: usize, k: usize) -> usize
 }
 
 // One pass over the steps: each search goes on where the last one ended, which no iterator over the index knows.
+// An array of the most entries that there can be: judging allocates nothing.
 pub fn step_index(file: &[u8]) -> [u16; 2049]
     requires { ValidTable 256 (read file.now) × StepsInside file.now }
     ensures { Viewed file.now result }

@@ -9,6 +9,7 @@ use case_plan::Plan;
 use case_reader::{Kind, has};
 
 // The states with a step to t by an action of the group.
+// A loop, and no fold: the closure would need a clause of its own, on the union so far.
 fn sources_by(plan: &Plan, group: usize, t: usize) -> u16
     requires { Sized (decoded plan.now) × (t < (decoded plan.now).states) }
     ensures { result ≡ sources_by (decoded plan.now) group t }
@@ -31,6 +32,7 @@ fn edge(some: bool, all: usize) -> usize
 
 // The group's modality, of some step or of all. At the empty set ⟨g⟩ has no state, and a state more adds those with a step to it: what is filled doubles
 // upwards. At the set of all states [g] has all, and a state less takes those away: it doubles downwards.
+// One loop for both, with a test in it: d and h run along, and a loop for each way, or a closure for the step, would say that twice.
 pub(crate) fn modality(work: &mut [u16], plan: &Plan, some: bool, group: usize, c: usize)
     requires { Sized (decoded plan.now) × (c + (decoded plan.now).size ≤ length work.old) }
     ensures { AtomFilled (decoded plan.now) work.old work.new c (logic.modal some group) }

@@ -1,5 +1,6 @@
 // Tables in the work area. A table is `count` words from a base on; each function fills one from others, entry by entry. Where the tables lie is told at each
 // call: all are in one area, and which lies below which differs from call to call.
+// By index, as `areas::fill` asks, since after a zip a proof knows no entry. What they share is `fill`; split and closure are two lines in each.
 ghost use Rattle.std.specs.Prelude.{◌≡◌, ℕ, ◌+◌, ◌≤◌, ◌<◌, length, replicate};
 ghost use Rattle.std.specs.Int.Bits.{bit_or, bit_and};
 ghost use Rattle.case_model.specs.Areas.{Filled, from};

@@ -70,6 +70,8 @@ fn own(x: Triple) -> Vocabulary
 }
 
 // Nodes that the root does not reach count for nothing.
+// A loop, and no fold: the closure would need a clause of its own, on what is gathered so far.
+// A file, and no case: vocabulary does not stand on case_file.
 pub fn looked(file: &[u8]) -> Vocabulary
     requires { ValidRule (read file.now) }
     ensures { vocabulary_of result ≡ looked (read file.now) }
