@@ -10,7 +10,7 @@ ghost use Rattle.case_tests.specs.RowTests.{limits_of};
 ghost use Rattle.case_file.specs.VettingStages.{Went, refused_at};
 
 use crate::reason::{Reason, Refusal};
-use case_reader::{SECTIONS, node_count, section_size, state_count};
+use case_reader::{SECTIONS, node_count, section_size, state_count, step_count};
 use case_tests::{
     Limits, first_wrong_binder, first_wrong_node, first_wrong_step, labels_hold, pairs_hold,
     root_closed, rule_holds, starts_rise,
@@ -99,7 +99,10 @@ impl<'a> Vetting<'a> {
         ensures { Went self.entry result (row3 self.entry.file.now (read self.entry.file.now)) }
     {
         self.unless(section_size(self.file, 1) % 3 == 0, Reason::Steps)?
-            .unless_at(first_wrong_step(self.file), Reason::Steps)
+            .unless_at(
+                first_wrong_step(self.file, step_count(self.file)),
+                Reason::Steps,
+            )
     }
 
     fn rule(self) -> Result<Vetting<'a>, Refusal>
@@ -120,14 +123,20 @@ impl<'a> Vetting<'a> {
     fn kinds(self) -> Result<Vetting<'a>, Refusal>
         ensures { Went self.entry result (row5 (read self.entry.file.now)) }
     {
-        self.unless_at(first_wrong_node(self.file), Reason::Node)
+        self.unless_at(
+            first_wrong_node(self.file, node_count(self.file)),
+            Reason::Node,
+        )
     }
 
     #[tactic(auto, using(crate::proofs::Stages::lowest_found))]
     fn binders(self) -> Result<Vetting<'a>, Refusal>
         ensures { Went self.entry result (row6 (read self.entry.file.now)) }
     {
-        self.unless_at(first_wrong_binder(self.file), Reason::Binder)
+        self.unless_at(
+            first_wrong_binder(self.file, node_count(self.file)),
+            Reason::Binder,
+        )
     }
 
     // The table of free variables has an entry for each node of a rule that row 4 has passed.

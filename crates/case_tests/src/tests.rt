@@ -27,11 +27,11 @@ fn step_wrong(file: &[u8], i: usize) -> bool
     !((t.0 < n) & (t.1 < Kind::ACTIONS) & (t.2 < n) & ((i == 0) | (last < t)))
 }
 
-// The lowest step that is wrong.
-pub fn first_wrong_step(file: &[u8]) -> Option<usize>
-    ensures { result ≡ lowest_of (step_wrong (read file.now)) (length (read file.now).steps) }
+// The lowest of `count` steps that is wrong.
+pub fn first_wrong_step(file: &[u8], count: usize) -> Option<usize>
+    ensures { result ≡ lowest_of (step_wrong (read file.now)) count }
 {
-    (0..step_count(file)).find(|i| step_wrong(file, *i))
+    (0..count).find(|i| step_wrong(file, *i))
 }
 
 pub fn rule_holds(file: &[u8]) -> bool
@@ -63,11 +63,11 @@ fn node_wrong(file: &[u8], j: usize) -> bool
     !node_holds(j, node(file, j))
 }
 
-// The lowest node that is wrong.
-pub fn first_wrong_node(file: &[u8]) -> Option<usize>
-    ensures { result ≡ lowest_of (node_wrong (read file.now)) (length (read file.now).nodes) }
+// The lowest of `count` nodes that is wrong.
+pub fn first_wrong_node(file: &[u8], count: usize) -> Option<usize>
+    ensures { result ≡ lowest_of (node_wrong (read file.now)) count }
 {
-    (0..node_count(file)).find(|j| node_wrong(file, *j))
+    (0..count).find(|j| node_wrong(file, *j))
 }
 
 // Does node i bind v?
@@ -85,11 +85,11 @@ fn binder_wrong(file: &[u8], j: usize) -> bool
     is_binder(t) && (0..j).any(|i| binds(file, i, t.1))
 }
 
-// The lowest node that binds what a node below it binds.
-pub fn first_wrong_binder(file: &[u8]) -> Option<usize>
-    ensures { result ≡ lowest_of (binder_wrong (read file.now)) (length (read file.now).nodes) }
+// The lowest of `count` nodes that binds what a node below it binds.
+pub fn first_wrong_binder(file: &[u8], count: usize) -> Option<usize>
+    ensures { result ≡ lowest_of (binder_wrong (read file.now)) count }
 {
-    (0..node_count(file)).find(|j| binder_wrong(file, *j))
+    (0..count).find(|j| binder_wrong(file, *j))
 }
 
 // The root's entry in the table of free variables is empty.

@@ -1,8 +1,8 @@
--- `case_file::case::CaseWithin::has_area` meets its contract: the words, divided by those of two tables, are as many as there are nodes.
+-- `case_file::case::Case::has_area` meets its contract: the words, divided by those of two tables, are as many as there are nodes.
 use borrow.Author.Rules.{rules}
 use native.Mathlib.Omega.{arith}
 use Rattle.case_file.proofs.Shifts.{area_shifted, area_none}
-use Rattle.case_file.proofs.case.CaseWithin.has_area.Goals as goal
+use Rattle.case_file.proofs.case.Case.has_area.Goals as goal
 
 pub returns-then-n-lt63 : goal.returns-then-n-lt63
 returns-then-n-lt63 g c = let a = c.args in area_shifted a.self.counts.nodes a.words a.self.counts.states
