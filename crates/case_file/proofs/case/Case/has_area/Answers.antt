@@ -5,7 +5,7 @@ use Rattle.case_file.proofs.Shifts.{area_shifted, area_none}
 use Rattle.case_file.proofs.case.Case.has_area.Goals as goal
 
 pub returns-then-n-lt63 : goal.returns-then-n-lt63
-returns-then-n-lt63 g c = let a = c.args in area_shifted a.self.counts.nodes a.words a.self.counts.states
+returns-then-n-lt63 c = let a = c.args in area_shifted a.self.counts.nodes a.words a.self.counts.states
 
 pub returns-else-n-lt63 : goal.returns-else-n-lt63
-returns-else-n-lt63 g c = let a = c.args in area_none a.self.counts.nodes a.words a.self.counts.states (search rules) (omega arith)
+returns-else-n-lt63 c = let a = c.args in area_none a.self.counts.nodes a.words a.self.counts.states (search rules) (omega arith)

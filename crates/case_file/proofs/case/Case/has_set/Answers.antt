@@ -5,7 +5,7 @@ use Rattle.case_file.proofs.Shifts.{set_shifted, set_any}
 use Rattle.case_file.proofs.case.Case.has_set.Goals as goal
 
 pub returns-then-n-lt64 : goal.returns-then-n-lt64
-returns-then-n-lt64 g c = set_shifted c.args.set c.args.self.counts.states
+returns-then-n-lt64 c = set_shifted c.args.set c.args.self.counts.states
 
 pub returns-else-n-lt64 : goal.returns-else-n-lt64
-returns-else-n-lt64 g c = set_any c.args.set c.args.self.counts.states (search rules) (omega arith)
+returns-else-n-lt64 c = set_any c.args.set c.args.self.counts.states (search rules) (omega arith)
