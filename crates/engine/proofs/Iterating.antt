@@ -18,7 +18,6 @@ use Rattle.flc.proofs.Order.{agree-below, below_trans, good_agree}
 use Rattle.flc.proofs.FixedPoints.{Steady, steady_agree, iterate_good, iterate-rises}
 use Rattle.flc.proofs.Meanings.{put_two, put_good, mean_steady}
 use Rattle.case_plan.specs.declared.moves.Direction.{Direction}
-use Rattle.case_plan.specs.Moves.{direction}
 use Rattle.case_plan.specs.Plans.{Plan, table_of, nodes_of}
 use Rattle.case_plan.proofs.Directions.{direction_kind}
 use Rattle.engine.specs.declared.refresh.Binder.{Binder}
@@ -44,7 +43,7 @@ pub record Turning (p : Plan) (w₀ w : List ℕ) (x : Binder) (act most r : ℕ
   pub settled : Settled p act w x.node
   pub stayed : Stayed p (NotAt p x.node) w₀ w x.node
 
-module _ {p : Plan} {w₀ : List ℕ} {x : Binder} {act : ℕ} (most : ℕ) (I : Iterable p w₀ x act) where
+module _ {p : Plan} {w₀ : List ℕ} {x : Binder} {act : ℕ} {way : Direction} (most : ℕ) (I : Iterable p w₀ x act way) where
   abbrev ρ : Env
   ρ = env p act w₀
 
@@ -52,7 +51,7 @@ module _ {p : Plan} {w₀ : List ℕ} {x : Binder} {act : ℕ} (most : ℕ) (I :
   steady = mean_steady (table_of p) (formula_at (nodes_of p) x.body) x.variable ρ I.binds.ready.good
 
   good : (r : ℕ) → Good p.states (after p w₀ x act r)
-  good r = iterate_good x.least steady I.rising r
+  good r = iterate_good I.rises steady I.rising r
 
   pub turning_start : Turning p w₀ w₀ x act most 0 None
   unfolding iterate
@@ -74,6 +73,7 @@ module _ {p : Plan} {w₀ : List ℕ} {x : Binder} {act : ℕ} (most : ℕ) (I :
     pub turning_roundable : Roundable p w x act moved
     turning_roundable = record {
       binds = record {
+        least = I.binds.least;
         is = I.binds.is;
         ready = ready_after I.binds.ready U.kept (omega arith) (omega arith);
         within = I.binds.within;
@@ -132,14 +132,14 @@ module _ {p : Plan} {w₀ : List ℕ} {x : Binder} {act : ℕ} (most : ℕ) (I :
       moves : changed ≡ true → Agree p.states (after p w₀ x act r) (after p w₀ x act (suc r)) → ⊥
       moves n h = let e : changed ≡ false = D.stands (λ q k. U.now q k ∙ h q k ∙ sym (now q k)) in cc
 
-      rose : Below x.least p.states (block p w x.node) (block p z x.node)
+      rose : Below I.rises p.states (block p w x.node) (block p z x.node)
       rose =
-          let d = x.least in
+          let d = I.rises in
           let n = p.states in
           below_trans d n _ _ _ (agree-below d n _ _ U.now)
           (below_trans d n _ _ _ (iterate-rises d steady I.rising r) (agree-below d n _ _ (λ q k. sym (now q k))))
 
-      pub turning_next : r < most → changed ≡ true → Turning p w₀ z x act most (r + 1) (Some (direction x.least))
+      pub turning_next : r < most → changed ≡ true → Turning p w₀ z x act most (r + 1) (Some way)
       turning_next l n = rw add-one (record {
         few = l;
         kept = kept;
@@ -150,10 +150,10 @@ module _ {p : Plan} {w₀ : List ℕ} {x : Binder} {act : ℕ} (most : ℕ) (I :
           | no e ↦ U.changed i (omega arith)
         ];
         older = λ d h. subst (λ d. Older p.states d (put ρ x.variable (block p z x.node)) (λ σ. Right p σ (wider act x) z x.node))
-            (direction_kind x.least d (some_same h)) (record {
+            (direction_kind I.rises d (sym I.along ∙ some_same h)) (record {
               env = σ;
               good = put_good ρ x.variable I.binds.ready.good good_now;
-              below = λ u. put_two (Below x.least p.states) ρ ρ x.variable u _ _ rose (λ t q k s j m. m);
+              below = λ u. put_two (Below I.rises p.states) ρ ρ x.variable u _ _ rose (λ t q k s j m. m);
               held = lower;
             });
         settled = D.settled;

@@ -46,12 +46,9 @@ pub begins-anew : (d : Bool) (grown : Option Direction) → goes_on (direction d
 begins-anew d grown e size old x = rw e
 
 -- ---- from the call
-module _ {p : Plan} {w w₀ : List ℕ} {act : ℕ} {grown : Option Direction} (x : Binder) (C : Computable p w x.node act grown)
-    (e : nodes_of p x.node ≡ bind x.least x.variable x.body)
-    (F : Filled w w₀ (x.node * p.size) p.size (begins x.least grown p.size (block p w x.node))) where
-  abbrev d : Bool
-  d = x.least
-
+module _ {p : Plan} {w w₀ : List ℕ} {act : ℕ} {grown : Option Direction} (x : Binder) (d : Bool) (C : Computable p w x.node act grown)
+    (e : nodes_of p x.node ≡ bind d x.variable x.body)
+    (F : Filled w w₀ (x.node * p.size) p.size (begins d grown p.size (block p w x.node))) where
   S : Sound p
   S = C.ready.sound
 
@@ -95,15 +92,18 @@ module _ {p : Plan} {w w₀ : List ℕ} {act : ℕ} {grown : Option Direction} (
       go true q = from_old q (C.older d (goes_on-same (direction d) grown q))
       go false q = rising_agree d steady (approx_rising d) (from_zero q)
 
-  pub iterable : Iterable p w₀ x act
+  pub iterable : Iterable p w₀ x act (direction d)
   iterable = record {
     binds = record {
+      least = d;
       is = e;
       ready = ready_after C.ready kept (omega arith) (omega arith);
       within = C.within;
       right = subst (λ ρ. Right p ρ act w₀ x.node) (sym same) (λ i l h q k. filled_lower p F i q l (size q k) ∙ C.right i l h q k);
       settled = settled_filled S act (ready_above C.ready (omega arith)) F C.settled;
     };
+    rises = d;
+    along = refl;
     rising = subst (λ ρ. Rising d p.states (body p ρ x) (block p w₀ x.node)) (sym same) rising;
   }
 

@@ -11,6 +11,7 @@ use Rattle.flc.specs.Own.{own}
 use Rattle.case_model.specs.Limits.{variables}
 use Rattle.case_model.specs.Reach.{Reached}
 use Rattle.case_plan.specs.declared.moves.Direction.{Direction}
+use Rattle.case_plan.specs.Moves.{direction}
 use Rattle.case_plan.specs.Plans.{Plan, table_of, nodes_of, meaning, Within, Sound}
 use Rattle.engine.specs.declared.refresh.Binder.{Binder}
 use Rattle.engine.specs.Blocks.{block, Kept, env, Right, RightAt}
@@ -81,7 +82,8 @@ wider act x = bit_or act (2 ^ x.variable)
 
 -- x is a binder; the nodes below it that do not see its variable are right
 pub record Binds (p : Plan) (w : List ℕ) (x : Binder) (act : ℕ) : Type 0 where
-  pub is : nodes_of p x.node ≡ bind x.least x.variable x.body
+  pub least : Bool
+  pub is : nodes_of p x.node ≡ bind least x.variable x.body
   pub ready : Ready p w (suc x.node) act
   pub within : Within (p.scopes x.node) act
   pub right : Right p (env p act w) act w x.node
@@ -105,10 +107,12 @@ pub record Rounded (p : Plan) (w v : List ℕ) (x : Binder) (act : ℕ) (changed
   pub closed : changed ≡ false → Settled p (wider act x) v x.node
   pub stayed : Stayed p (NotAt p x.node) w v x.node
 
--- round after round, from a table that moves in the binder's direction
-pub record Iterable (p : Plan) (w : List ℕ) (x : Binder) (act : ℕ) : Type 0 where
+-- round after round, from a table that moves in the direction `way`, be it that of the binder or not
+pub record Iterable (p : Plan) (w : List ℕ) (x : Binder) (act : ℕ) (way : Direction) : Type 0 where
   pub binds : Binds p w x act
-  pub rising : Rising x.least p.states (body p (env p act w) x) (block p w x.node)
+  pub rises : Bool
+  pub along : way ≡ direction rises
+  pub rising : Rising rises p.states (body p (env p act w) x) (block p w x.node)
 
 -- what they come to
 abbrev pub after : Plan → List ℕ → Binder → ℕ → ℕ → Fun

@@ -1,5 +1,5 @@
 // The tables of all nodes, by recursion over nodes with the number falling (docs/SPECIFICATION.md, clause 11.5); those of binders by approximants.
-ghost use Rattle.std.specs.Prelude.{◌≡◌, ◌+◌};
+ghost use Rattle.std.specs.Prelude.{◌≡◌};
 ghost use Rattle.case_plan.specs.Plans.{decoded};
 ghost use Rattle.engine.specs.Computing.{Refreshable, Refreshed, Computable, Computed, Roundable, Rounded, Iterable, Iterated};
 
@@ -8,12 +8,10 @@ use case_plan::{Direction, variable};
 use case_reader::{Kind, kind_of};
 use tables::advance;
 
-// A binder: its node, whether it is of the least fixed point, its variable and its body.
-// `least` is the flag of `Kind::Binder`: both its direction and its first approximant are made of it.
+// A binder: its node, its variable and its body.
 #[derive(Clone, Copy)]
 pub struct Binder {
     pub node: usize,
-    pub least: bool,
     pub variable: usize,
     pub body: usize,
 }
@@ -57,26 +55,24 @@ impl Blocks<'_> {
         self.begin(j, least, grown);
         let binder = Binder {
             node: j,
-            least,
             variable: x.1,
             body: x.2,
         };
-        self.rounds(binder, act)
+        // The round that changes nothing comes after as many as there can be.
+        let most = self.plan.limit + 1;
+        self.rounds(binder, act, Direction::of(least), most)
     }
 
-    // Rounds of a binder from the table that it has, which moves in the binder's direction, until one changes nothing.
+    // Rounds of a binder from the table that it has, which moves in the direction `way`, until one changes nothing, but at most so many.
     // The answer is how many changed something. In the first round the binders within it start anew, for nothing is known of their tables; then
     // only this binder's table moves, so that those which move in the same direction go on from theirs.
     #[cycle(compute_refresh_round_rounds)]
-    fn rounds(&mut self, x: Binder, act: u32) -> usize
-        requires { Iterable (decoded self.old.plan.now) self.old.work.now x act }
-        ensures is { Iterated (decoded self.old.plan.now) self.old.work.now self.new.work.now x act (self.old.plan.now.limit + 1) result }
+    pub(crate) fn rounds(&mut self, x: Binder, act: u32, way: Direction, most: usize) -> usize
+        requires { Iterable (decoded self.old.plan.now) self.old.work.now x act way }
+        ensures is { Iterated (decoded self.old.plan.now) self.old.work.now self.new.work.now x act most result }
         ensures plan { self.new.plan ≡ self.old.plan }
         ensures same_reference { self.new.work.ghost_name ≡ self.old.work.ghost_name }
     {
-        let way = Direction::of(x.least);
-        // The round that changes nothing comes after as many as there can be.
-        let most = self.plan.limit + 1;
         let mut moved = None;
         for r in 0..most {
             let changed = self.round(x, act, moved);
@@ -91,7 +87,7 @@ impl Blocks<'_> {
     // One round of a binder: the nodes that depend on its variable are computed, then its table becomes its body's. Did that change anything?
     // Why it is right: the nodes below are computed with the binder's table for its variable, so that the body's table is what the body makes of it.
     #[cycle(compute_refresh_round_rounds)]
-    fn round(&mut self, x: Binder, act: u32, moved: Option<Direction>) -> bool
+    pub(crate) fn round(&mut self, x: Binder, act: u32, moved: Option<Direction>) -> bool
         requires { Roundable (decoded self.old.plan.now) self.old.work.now x act moved }
         ensures is { Rounded (decoded self.old.plan.now) self.old.work.now self.new.work.now x act result }
         ensures plan { self.new.plan ≡ self.old.plan }

@@ -1,18 +1,17 @@
 -- `engine::blocks::Blocks::refresh`, `compute`, `rounds` and `round` meet their contracts. What each step needs stands in Refreshing, Settling, Iterating and
 -- Turns; here the places of the code are tied to it.
-use Prim.Native.Nat.{suc, ◌+◌}
+use Prim.Native.Nat.{suc}
 use mathlib.Core.Path.{◌≡◌, refl, sym, ap, ◌∙◌, subst}
 use native.Mathlib.Omega.{arith}
 use lib.Bits.{bit_or}
-use Rattle.std.specs.Prelude.{Some}
 use Rattle.case_plan.specs.Plans.{decoded}
 use Rattle.case_plan.proofs.KnownNodes.{known, other_kind}
 use Rattle.engine.specs.declared.refresh.Binder.{Binder}
-use Rattle.engine.specs.Computing.{Refreshable, Refreshed, Iterated}
+use Rattle.engine.specs.Computing.{Refreshable, Refreshed, Iterable, Iterated}
 use Rattle.engine.proofs.Refreshing.{refresh_lower, skip_out, skip_old, computable, one_more}
 use Rattle.engine.proofs.Refreshing.{fillable, computed_plain}
 use Rattle.engine.proofs.Turns.{binds_low, binder_here, body_under, round_refreshable, rounded}
-use Rattle.engine.proofs.Iterating.{Turning, turning_start, turning_roundable, turning_next, iterated_still, iterated_most}
+use Rattle.engine.proofs.Iterating.{turning_start, turning_roundable, turning_next, iterated_still, iterated_most}
 use Rattle.engine.proofs.Settling.{iterable, computed_binder}
 use Rattle.engine.proofs.blocks.Blocks.+compute_refresh_round_rounds.Goals as goal
 use Rattle.engine.proofs.blocks.Blocks.+compute_refresh_round_rounds.Goals.{refresh-else-scope-act-via-then-scope-act+else-scope-old}
@@ -31,16 +30,20 @@ compute-returns-in_default-clause-is t c =
 pub compute-rounds-requires : goal.compute-rounds-requires
 compute-rounds-requires t c =
     let x = c.node-x.result in
-    let B : Binder = record { node = c.args.j; least = c.in-Binder.least; variable = x.1; body = x.2 } in
-    let is = known (decoded c.args.self.now.plan.now) c.args.j c.node-x.ensures c.kind_of.ensures c.in-Binder.is in
-    (omega (arith, c.decreases), rw c.begin.ensures.plan (iterable B c.requires is c.begin.ensures.is))
+    let B : Binder = record { node = c.args.j; variable = x.1; body = x.2 } in
+    let is = known (decoded c.args.self.now.plan.now) c.args.j c.node-x.ensures c.kind_of.ensures c.in-Binder.is in (
+      omega (arith, c.decreases),
+      rw c.begin.ensures.plan (subst (Iterable (decoded c.args.self.now.plan.now) c.begin.new.self.work.now B c.args.act) (sym c.of.ensures)
+          (iterable B c.in-Binder.least c.requires is c.begin.ensures.is)),
+    )
 
 pub compute-returns-clause-is : goal.compute-returns-clause-is
 compute-returns-clause-is t c =
     let x = c.node-x.result in
-    let B : Binder = record { node = c.args.j; least = c.in-Binder.least; variable = x.1; body = x.2 } in
+    let B : Binder = record { node = c.args.j; variable = x.1; body = x.2 } in
     let is = known (decoded c.args.self.now.plan.now) c.args.j c.node-x.ensures c.kind_of.ensures c.in-Binder.is in
-    computed_binder B c.requires is c.begin.ensures.is (omega (arith, c.requires.ready.sound.limit)) (rw c.begin.ensures.plan at c.rounds.ensures.is)
+    computed_binder B c.in-Binder.least c.requires is c.begin.ensures.is (omega (arith, c.requires.ready.sound.limit))
+    (rw c.begin.ensures.plan at c.rounds.ensures.is)
 
 -- ---- refresh
 pub refresh-refresh-requires : goal.refresh-refresh-requires
@@ -105,28 +108,25 @@ round-returns-clause-is t c =
 
 -- ---- rounds
 pub rounds-loop-r-init : goal.rounds-loop-r-init
-rounds-loop-r-init t c = record { turning = turning_start (c.args.self.now.plan.now.limit + 1) c.requires; stays = (refl, refl) }
+rounds-loop-r-init t c = record { turning = turning_start c.args.most c.requires; stays = (refl, refl) }
 
 pub rounds-round-changed-requires : goal.rounds-round-changed-requires
 rounds-round-changed-requires t c =
     let I = c.loop-r.invariant in
-    let fits = turning_roundable (c.args.self.now.plan.now.limit + 1) c.requires I.turning in
+    let fits = turning_roundable c.args.most c.requires I.turning in
     (omega (arith, c.decreases), rw I.stays.0 fits)
 
 pub rounds-returns-then-not-changed-clause-is : goal.rounds-returns-then-not-changed-clause-is
 rounds-returns-then-not-changed-clause-is t c =
     let I = c.loop-r.invariant in
-    iterated_still (c.args.self.now.plan.now.limit + 1) c.requires I.turning (rw I.stays.0 at c.round-changed.ensures.is) c.if-not-changed.true
+    iterated_still c.args.most c.requires I.turning (rw I.stays.0 at c.round-changed.ensures.is) c.if-not-changed.true
 
 pub rounds-loop-r-preserved : goal.rounds-loop-r-preserved
 rounds-loop-r-preserved t c =
-    let p = decoded c.args.self.now.plan.now in
     let I = c.loop-r.invariant in
     let R = rw I.stays.0 at c.round-changed.ensures.is in
-    let next = turning_next (p.limit + 1) c.requires I.turning R (omega (arith, c.loop-r-test.true)) c.if-not-changed.false in
     record {
-      turning = subst (λ d. Turning p c.args.self.now.work.now c.round-changed.new.self.work.now c.args.x c.args.act (p.limit + 1) (c.loop-r.r + 1) (Some d))
-          (sym c.of-way.ensures) next;
+      turning = turning_next c.args.most c.requires I.turning R (omega (arith, c.loop-r-test.true)) c.if-not-changed.false;
       stays = (c.round-changed.ensures.plan ∙ I.stays.0, c.round-changed.ensures.same_reference ∙ I.stays.1);
     }
 
@@ -134,6 +134,6 @@ pub rounds-returns-clause-is : goal.rounds-returns-clause-is
 rounds-returns-clause-is t c =
     let p = decoded c.args.self.now.plan.now in
     let I = c.loop-r.invariant.turning in
-    let all : c.loop-r.r ≡ p.limit + 1 = omega (arith, I.few) in
-    subst (Iterated p c.args.self.now.work.now c.loop-r.self.work.now c.args.x c.args.act (p.limit + 1)) all
-    (iterated_most (p.limit + 1) c.requires I (omega (arith, c.loop-r-test.false)))
+    let all : c.loop-r.r ≡ c.args.most = omega (arith, I.few) in
+    subst (Iterated p c.args.self.now.work.now c.loop-r.self.work.now c.args.x c.args.act c.args.most) all
+    (iterated_most c.args.most c.requires I (omega (arith, c.loop-r-test.false)))

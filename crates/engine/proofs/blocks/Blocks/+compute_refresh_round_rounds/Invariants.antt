@@ -20,6 +20,6 @@ decreases-round l = 4 * l.x.node + 1
 
 abbrev pub invariant-rounds-loop-r : goal.invariant-rounds-loop-r
 invariant-rounds-loop-r l = record {
-  turning : let b = l.initial.self in Turning (decoded b.plan.now) b.work.now l.self.work.now l.x l.act (b.plan.now.limit + 1) l.r l.moved;
+  turning : let b = l.initial.self in Turning (decoded b.plan.now) b.work.now l.self.work.now l.x l.act l.most l.r l.moved;
   stays : (l.self.plan ≡ l.initial.self.plan) × (l.self.work.ghost_name ≡ l.initial.self.work.ghost_name);
 }
