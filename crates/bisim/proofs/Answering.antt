@@ -1,10 +1,9 @@
 -- What classes replies of an accepted case, by the room; and the answer from the rows of alike states.
--- Row 13 alone is left, and says whether all bytes are written or none.
-use mathlib.Core.Bool.{Bool, cond}
+-- Row 13 alone is left.
+use mathlib.Core.Bool.{Bool}
 use mathlib.Core.List.{List, ◌++◌}
 use mathlib.Core.Path.{◌≡◌, refl, sym, ap, ◌∙◌}
 use Prim.Native.Nat.{ℕ, zero, suc, ◌+◌, ◌≤◌, ◌<◌}
-use native.Mathlib.Decide.{dec_le}
 use native.Mathlib.Omega.{arith}
 use borrow.Author.Tests.{le-leb, lt-leb}
 use lib.Dec.{leb}
@@ -40,31 +39,9 @@ lowest-alike : {c : Case} {g : Graph} {rows : List ℕ} → Drawn c g → Rows g
 unfolding lowest_alike
 lowest-alike {c} d r = list_of_ext (length c.labels) _ _ (λ s i. first_ext _ _ 0 s (λ t _ j. rows_alike d r s t i (omega arith)))
 
--- ---- all bytes or none
-pub served_within : (n room : ℕ) {count : ℕ} → count ≡ cond (leb n room) n 0 → (count ≤ n) × (count ≤ room)
-served_within n room e = elim (dec_le n room) [
-  | yes h ↦ let q = rw (le-leb n room h) at e in (omega arith, omega arith)
-  | no h ↦ let q = rw (lt-leb n room (omega arith)) at e in (omega arith, omega arith)
-]
-
-served_none : (n room : ℕ) {count : ℕ} → count ≡ cond (leb n room) n 0 → count < n → (room < n) × (count ≡ 0)
-served_none n room e l = elim (dec_le n room) [
-  | yes h ↦ let q = rw (le-leb n room h) at e in (omega arith, omega arith)
-  | no h ↦ (omega arith, rw (lt-leb n room (omega arith)) at e)
-]
-
 -- ---- what classes replies
--- an accepted case, of whose classes so many bytes are written
-module _ (f out : List ℕ) {k : Counts} (ok : Accepted standard f k) {g : Graph} {rows : List ℕ} (d : Drawn (read f) g)
-    (r : Rows g.states rows (bisimilar (table_of g)))
-    {n count : ℕ} (states : n ≡ k.states) (served : count ≡ cond (leb n (length out)) n 0)
-    {v : List ℕ} (w : Laid out v 0 count (list_of count (λ s. first (related rows s) 0 s))) where
-  -- the area after the call
-  front : v ≡ list_of count (λ s. first (related rows s) 0 s) ++ drop count out
-  front =
-      let h = length-list_of count (λ s. first (related rows s) 0 s) in
-      rw h at (laid_whole w (served_within n (length out) served).1)
-
+-- an accepted case of n states
+module _ (f out : List ℕ) {k : Counts} (ok : Accepted standard f k) {n : ℕ} (states : n ≡ k.states) where
   long : length (classes (read f)) ≡ n
   long = length-list_of (length (read f).labels) (lowest_alike (read f)) ∙ sym (states ∙ ok.states)
 
@@ -75,16 +52,17 @@ module _ (f out : List ℕ) {k : Counts} (ok : Accepted standard f k) {g : Graph
       own_rows standard f (λ c. row13 (classes c) (length out)) classes ok.rows
       ∙ ap (λ m. replied (unless (leb m (length out)) 13 0) (classes (read f))) long
 
-  pub classing_short : count < n → (refuses 13 0 ≡ counted (classing f (length out))) × (v ≡ written (classing f (length out)) out)
-  unfolding list_of
+  pub classing_short : length out < n → (refuses 13 0 ≡ counted (classing f (length out))) × (out ≡ written (classing f (length out)) out)
   classing_short h =
-      let (l, z) = served_none n (length out) served h in
-      let e : classing f (length out) ≡ refuses 13 0 = by_room ∙ rw (lt-leb n (length out) l) in
-      (rw e, rw e (rw z at front))
+      let e : classing f (length out) ≡ refuses 13 0 = by_room ∙ rw (lt-leb n (length out) h) in
+      (rw e, rw e)
 
-  pub classing_whole : n ≤ count → (answers n ≡ counted (classing f (length out))) × (v ≡ written (classing f (length out)) out)
-  classing_whole h =
-      let (few, fits) = served_within n (length out) served in
-      let q : count ≡ length (read f).labels = omega (arith, states, ok.states) in
-      let e : classing f (length out) ≡ answers (classes (read f)) = by_room ∙ rw (le-leb n (length out) (omega arith)) in
+  -- whose classes are written
+  pub classing_whole : {g : Graph} {rows v : List ℕ} → Drawn (read f) g → Rows g.states rows (bisimilar (table_of g)) → n ≤ length out
+      → Laid out v 0 n (list_of n (λ s. first (related rows s) 0 s)) → (answers n ≡ counted (classing f (length out))) × (v ≡ written (classing f (length out)) out)
+  classing_whole {g} {rows} {v} d r fits w =
+      let h = length-list_of n (λ s. first (related rows s) 0 s) in
+      let front : v ≡ list_of n (λ s. first (related rows s) 0 s) ++ drop n out = rw h at (laid_whole w fits) in
+      let q : n ≡ length (read f).labels = omega (arith, states, ok.states) in
+      let e : classing f (length out) ≡ answers (classes (read f)) = by_room ∙ rw (le-leb n (length out) fits) in
       (rw (e, long), rw (e, ← lowest-alike d r, length-list_of (length (read f).labels) _) (rw q at front))

@@ -32,26 +32,17 @@ fn write(rows: &[u16; 16], n: usize, out: &mut [u8])
     }
 }
 
-// How many bytes are written of a result of n bytes: all, or none where there is no room.
-// A number, 0 where it is refused: one call of `write` serves both replies, and one equation says what is written.
-fn served(n: usize, room: usize) -> usize
-    ensures { result ≡ cond (leb n room) n 0 }
-{
-    if n <= room { n } else { 0 }
-}
-
 // The classes of an accepted case.
 fn write_classes(case: Case, out: &mut [u8]) -> Result<usize, Refusal>
     ensures result_value { written_reply result ≡ counted (classing case.entry.file.now (length out.old)) }
     ensures out_after { out.new ≡ written (classing case.entry.file.now (length out.old)) out.old }
 {
     let n = case.states();
-    let count = served(n, out.len());
-    let graph = Graph::draw(case, step_rows(case.file(), false));
-    write(&graph.alike_rows(), count, out);
-    if count < n {
+    if out.len() < n {
         return Err(Reason::Room.into());
     }
+    let graph = Graph::draw(case, step_rows(case.file(), false));
+    write(&graph.alike_rows(), n, out);
     Ok(n)
 }
 
