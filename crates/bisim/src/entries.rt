@@ -10,7 +10,7 @@ ghost use Rattle.bisimilarity.specs.Relations.{related};
 ghost use Rattle.case_file.specs.EnumNumbers.{written_reply};
 
 use bisimilarity::Graph;
-use case_file::{Case, Reason, Refusal};
+use case_file::{AcceptedCase, Case, Reason, Refusal};
 use case_reader::{has, step_rows};
 
 // The lowest state that row s has, s itself if none is lower.
@@ -33,7 +33,7 @@ fn write(rows: &[u16; 16], n: usize, out: &mut [u8])
 }
 
 // The classes of an accepted case.
-fn write_classes(case: Case, out: &mut [u8]) -> Result<usize, Refusal>
+fn write_classes(case: AcceptedCase, out: &mut [u8]) -> Result<usize, Refusal>
     ensures result_value { written_reply result ≡ counted (classing case.entry.file.now (length out.old)) }
     ensures out_after { out.new ≡ written (classing case.entry.file.now (length out.old)) out.old }
 {
@@ -52,5 +52,9 @@ pub fn classes(file: &[u8], out: &mut [u8]) -> Result<usize, Refusal>
     ensures result_value { written_reply result ≡ counted (classing file.now (length out.old)) }
     ensures out_after { out.new ≡ written (classing file.now (length out.old)) out.old }
 {
-    write_classes(Case::new(file)?, out)
+    let checked = Case::accept(file);
+    let Ok(case) = checked else {
+        return Err(checked.unwrap_err());
+    };
+    write_classes(case, out)
 }

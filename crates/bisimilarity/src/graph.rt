@@ -7,7 +7,7 @@ ghost use Rattle.case_model.specs.Valid.{ValidTable};
 ghost use Rattle.case_reader.specs.StepRows.{StepRows};
 ghost use Rattle.bisimilarity.specs.Successors.{Within};
 
-use case_file::Case;
+use case_file::AcceptedCase;
 use case_reader::label;
 use std::array;
 use vocabulary::looked;
@@ -39,7 +39,7 @@ impl Graph {
     ghost use Rattle.bisimilarity.specs.Graphs.{Drawn};
 
     // The graph of a case, whose steps have been read into rows.
-    pub fn draw(case: Case<'_>, steps: [u16; 128]) -> Graph
+    pub fn draw(case: AcceptedCase<'_>, steps: [u16; 128]) -> Graph
         requires { StepRows (read case.file.now).steps steps }
         ensures { Drawn (read case.entry.file.now) result }
     {

@@ -6,7 +6,8 @@ use Rattle.case_file.specs.Counting.{counts_of}
 use Rattle.case_file.specs.declared.reason.Reason.{Reason}
 use Rattle.case_file.specs.declared.reason.Reason.TheVariants as reason
 use Rattle.case_file.specs.declared.reason.Refusal.{Refusal}
-use Rattle.case_file.specs.declared.case.CaseWithin.{CaseWithin}
+use Rattle.case_file.specs.declared.accepted.CaseWithin.{CaseWithin}
+use Rattle.case_file.specs.declared.case.Case.{Case}
 use Rattle.case_file.specs.declared.vetting.Counts as code
 
 -- clauses 8.1 to 8.15: the number of each reason
@@ -40,6 +41,10 @@ reply seen (Err r) = refuses (number r.reason) r.place
 -- clause 1.12: n and m of a case
 abbrev pub case_counts : {longest states : ℕ} → CaseWithin longest states → Counts
 case_counts c = counts_of c.counts
+
+-- the same of a case without its file
+abbrev pub counted_only : Case → Counts
+counted_only c = counts_of c.counts
 
 abbrev pub vetted_reply : Result code.Counts Refusal → Reply Counts
 vetted_reply = reply counts_of

@@ -8,7 +8,7 @@ use case_reader::Triple;
 
 // Arrays of the most entries that there can be, with a count beside them: judging allocates nothing.
 // Nodes and scopes are two arrays, and not one of pairs: each is filled by a function with a clause on it alone.
-#[derive(Drop)]
+#[derive(Clone, Copy)]
 pub struct Plan {
     // n.
     pub states: usize,

@@ -47,6 +47,18 @@ pub enum Kind {
 }
 
 impl Kind {
+    // The last kind of a constant, τ's, and those of the operators.
+    // Numbers, and no values of Kind: they are public, for code that reads a triple's first byte.
+    pub const LAST_CONSTANT: usize = 3;
+
+    pub const TAU: usize = 5;
+
+    pub const OR: usize = Operator::Or as usize;
+
+    pub const AND: usize = Operator::And as usize;
+
+    pub const CHOP: usize = Operator::Chop as usize;
+
     // How many propositions, variables, actions and groups of actions an operand can name.
     pub const PROPOSITIONS: usize = 8;
 

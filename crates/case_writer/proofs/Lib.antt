@@ -1,4 +1,3 @@
-pub mod Copying
 pub mod Runs
 pub mod Pairs
 pub mod Packing

@@ -1,11 +1,23 @@
 // An area that runs of bytes are written to, each behind the one before.
 ghost use Rattle.std.specs.Prelude.{◌≡◌, [], ◌∷◌, ◌+◌, ◌*◌, ◌≤◌, ◌<◌, length};
+ghost use Rattle.case_model.specs.Areas.{Laid};
 ghost use Rattle.case_model.specs.Bytes.{word, pairs};
 ghost use Rattle.case_model.specs.Case.{flat};
 ghost use Rattle.case_reader.specs.Read.{triple};
 ghost use Rattle.case_writer.specs.Writing.{Writes, total};
 
 use case_reader::Triple;
+
+// The bytes, into an area from a place on.
+// A loop, and no `copy_from_slice`, which has a way for runs that overlap: with it the archive for C would need `memmove`.
+fn lay(bytes: &[u8], area: &mut [u8], at: usize)
+    requires { at + length bytes.now ≤ length area.old }
+    ensures { Laid area.old area.new at (at + length bytes.now) bytes.now }
+{
+    for i in 0..bytes.len() {
+        area[at + i] = bytes[i];
+    }
+}
 
 // The area, and how many of its bytes are written.
 // A lent area, and no Vec: it is the caller's for C, and nothing is allocated.
@@ -25,12 +37,19 @@ impl<'a> Output<'a> {
         Output { area, at: 0 }
     }
 
+    // How many bytes are written.
+    pub fn written(&self) -> usize
+        ensures { result ≡ self.now.at }
+    {
+        self.at // where the last run ends
+    }
+
     pub fn part(&mut self, bytes: &[u8])
         requires { self.old.at + length bytes.now ≤ length self.old.area.now }
         ensures { Writes self.old self.new bytes.now }
     {
         let end = self.at + bytes.len();
-        self.area[self.at..end].copy_from_slice(bytes);
+        lay(bytes, self.area, self.at);
         self.at = end;
     }
 

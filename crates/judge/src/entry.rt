@@ -6,7 +6,7 @@ ghost use Rattle.engine.specs.Asking.{Asked};
 ghost use Rattle.judge.specs.PlanVerdicts.{plan_verdict};
 ghost use Rattle.judge.specs.EnumNumbers.{judged_reply, answer};
 
-use case_file::{Case, Reason, Refusal};
+use case_file::{AcceptedCase, Case, Reason, Refusal};
 use case_plan::{Plan, plan};
 use engine::run;
 use tables::clear;
@@ -29,7 +29,7 @@ fn answer(work: &mut [u16], plan: &Plan, set: u16) -> Verdict
 }
 
 // Of an accepted case: rows 8 and 9, then the answer, after which the area is cleared.
-fn judge_accepted(case: Case, set: u16, work: &mut [u16]) -> Result<Verdict, Refusal>
+fn judge_accepted(case: AcceptedCase, set: u16, work: &mut [u16]) -> Result<Verdict, Refusal>
     ensures result_value { judged_reply result ≡ judging case.entry.file.now set (length work.old) }
     ensures work_after { work.new ≡ cleared (judging case.entry.file.now set (length work.old)) work.old }
 {
@@ -51,5 +51,9 @@ pub fn judge(file: &[u8], set: u16, work: &mut [u16]) -> Result<Verdict, Refusal
     ensures result_value { judged_reply result ≡ judging file.now set (length work.old) }
     ensures work_after { work.new ≡ cleared (judging file.now set (length work.old)) work.old }
 {
-    judge_accepted(Case::new(file)?, set, work)
+    let checked = Case::accept(file);
+    let Ok(case) = checked else {
+        return Err(checked.unwrap_err());
+    };
+    judge_accepted(case, set, work)
 }

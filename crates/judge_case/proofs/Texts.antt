@@ -1,7 +1,8 @@
--- Numerals: the digits of a number are as few as hold it, so they are its numeral, whether the code or the library writes them.
-use Prim.Native.Nat.{ℕ, zero, suc, ◌+◌, ◌-◌, ◌/◌, ◌%◌, ◌^◌, ◌≤◌, ◌<◌}
+-- Numerals, and pages of text that grow.
+-- A text after a text is one run; the digits of a number are as few as hold it, so they are its numeral.
+use Prim.Native.Nat.{ℕ, zero, suc, ◌+◌, ◌-◌, ◌/◌, ◌^◌, ◌≤◌, ◌<◌}
 use mathlib.Core.Bool.{Bool, true, false}
-use mathlib.Core.List.{List, [], ◌∷◌, ◌++◌, append_assoc}
+use mathlib.Core.List.{List, ◌++◌}
 use mathlib.Core.Path.{◌≡◌, refl, sym, ap, ap₂, ◌∙◌, subst}
 use native.Mathlib.Decide.{ℕ_discrete, dec_lt}
 use native.Mathlib.Nat.{le_trans, pow-le-pow_right}
@@ -9,11 +10,15 @@ use native.Mathlib.Numerals.{add-one}
 use native.Mathlib.Omega.{arith}
 use borrow.Author.Tests.{lt-ltb, le-ltb}
 use lib.Dec.{ltb}
-use Rattle.std.specs.Fmt.{decimal}
-use Rattle.std.proofs.lemmas.Fmt.{decimal_by_steps}
-use Rattle.io.specs.Digits.{last_digits, hex_digit_ascii, IsDigitCount}
+use lib.ListN.{length, take, drop, length-append}
+use lib.Seq.{take-append_seam, length-take-le}
+use Rattle.io.specs.Digits.{last_digits, IsDigitCount}
 use Rattle.flc.specs.Sets.{first, has}
-use Rattle.judge_case.specs.Printed.{states, rounds, starts, refused, end, space, numeral, word, yes_or_no, line, lines, verdict_lines, refusal_line}
+use Rattle.flc.proofs.Tests.{first_le}
+use Rattle.judge_case.specs.declared.page.Page.{Page}
+use Rattle.case_model.specs.Areas.{Laid}
+use Rattle.case_model.proofs.Laying.{laid_after, laid_whole}
+use Rattle.judge_case.specs.Printed.{end, yes_or_no, numeral, line, lines, Shows, Grew, Blank}
 
 -- ---- numerals
 -- the first number from i on that passes
@@ -39,56 +44,45 @@ few_digits n r h (some, holds, least) = elim (dec_lt 20 r) [
   | no l ↦ omega arith
 ]
 
--- ---- the library's numerals
--- some digits are the last ones of n, as few as hold it
-Fewest : ℕ → List ℕ → Type 0
-Fewest n digits = (r : ℕ) × IsDigitCount 10 1 n r × (digits ≡ last_digits 10 r n)
+-- a numeral has at most 20 digits
+digits_long : (k n : ℕ) → length (last_digits 10 k n) ≡ k
+digits_long zero n = refl
+digits_long (suc k) n = length-append (last_digits 10 k (n / 10)) _ ∙ rw (digits_long k (n / 10)) (add-one k)
 
-digit : (n : ℕ) → hex_digit_ascii (n % 10) ≡ 48 + n % 10
-digit n = rw (lt-ltb (n % 10) 10 (omega arith)) refl
+pub numeral_short : (n : ℕ) → length (numeral n) ≤ 20
+unfolding numeral
+numeral_short n = rw (digits_long (first (λ k. ltb n (10 ^ k)) 1 19) n) (first_le (λ k. ltb n (10 ^ k)) 1 19)
 
--- one digit more
-next : (n r : ℕ) → 1 ≤ r → 10 ≤ n → (1 < r → 10 ^ (r - 1) ≤ n / 10) → 10 ^ (suc r - 1) ≤ n
-next n r some k least =
-    let e : suc r - 1 ≡ suc (r - 1) = omega arith in
-    rw e (elim (dec_lt 1 r) [
-      | yes l ↦ omega (arith, least l)
-      | no l ↦ let z : r - 1 ≡ 0 = omega arith in rw z (omega arith)
-    ])
+-- ---- pages
+-- from the blank page on
+pub shows : {p r : Page} {l : List ℕ} → Blank p → Grew p r l → r.length ≤ 512 → Shows r l
+shows {p} {r} {l} z a h =
+    let e = a.ends in
+    let k : r.length ≡ length l = omega (arith, z.none) in
+    let from_0 : Laid p.bytes r.bytes 0 r.length l = subst (λ b. Laid p.bytes r.bytes b r.length l) z.none a in
+    let w : r.bytes ≡ l ++ drop (length l) p.bytes = laid_whole from_0 (omega (arith, z.room)) in
+    record {
+      is = ap₂ take k w ∙ take-append_seam l (drop (length l) p.bytes);
+      fits = (omega (arith, a.long, z.room), sym (length-take-le r.length r.bytes (omega (arith, a.long, z.room))));
+    }
 
-pub decimal_numeral : (n : ℕ) → n < 2 ^ 64 → decimal n ≡ numeral n
-unfolding Fewest
-decimal_numeral n h =
-    let (r, d, e) = decimal_by_steps Fewest
-    (λ n l. let e : n % 10 ≡ n = omega arith in
-    (1, (omega arith, omega arith, λ z. absurd (omega arith)), ap (λ x. x ∷ []) (sym (digit n ∙ ap (λ n. 48 + n) e))))
-    (λ n l k (r, (some, holds, least), e).
-    (suc r, (omega arith, omega (arith, holds), λ z. next n r some k least), ap₂ (λ l x. l ++ x ∷ []) e (sym (digit n)))) n h in
-    e ∙ fewest n r (few_digits n r h d) d
+-- a line has as many bytes as its words, and at most 21 more
+pub line_short : (what : List ℕ) (n : ℕ) → length (line what n) ≤ length what + 21
+line_short what n = omega (arith, length-append what (numeral n ++ end), length-append (numeral n) end, numeral_short n)
 
--- ---- what the code writes, as the print has it
-join : (a b c d : List ℕ) → a ++ (b ++ (c ++ d)) ≡ (a ++ (b ++ c)) ++ d
-join a b c d = ap (λ l. a ++ l) (sym (append_assoc b c d)) ∙ sym (append_assoc a (b ++ c) d)
+pub answer_short : (b : Bool) → length (yes_or_no b) ≤ 5
+answer_short true = omega arith
+answer_short false = omega arith
 
-after_word : (b : Bool) → space ++ (word b ++ end) ≡ yes_or_no b
-after_word true = refl
-after_word false = refl
+pub state_short : (s : ℕ) (b : Bool) → length (numeral s ++ yes_or_no b) ≤ 25
+state_short s b = omega (arith, length-append (numeral s) (yes_or_no b), numeral_short s, answer_short b)
 
 -- one state more
-pub state_text : (s x : ℕ) {b : Bool} → b ≡ has x s → s < 2 ^ 64 → lines s x ++ (decimal s ++ (space ++ (word b ++ end))) ≡ lines (s + 1) x
+pub one_state : {p q r : Page} (s x : ℕ) {b : Bool} → b ≡ has x s → Grew p q (lines s x)
+    → Grew q r (numeral s ++ yes_or_no b) → Grew p r (lines (s + 1) x)
 unfolding lines
-state_text s x {b} e h =
-    rw (add-one s) (ap₂ (λ d w. lines s x ++ (d ++ w)) (decimal_numeral s h) (after_word b ∙ ap yes_or_no e))
+one_state {p} {q} {r} s x e a h =
+    rw (add-one s) (subst (λ b. Grew p r (lines s x ++ (numeral s ++ yes_or_no b))) e (laid_after a h))
 
-pub verdict_text : (n r x : ℕ) (b : Bool) → n < 2 ^ 64 → r < 2 ^ 64
-    → states ++ (decimal n ++ (end ++ (rounds ++ (decimal r ++ (end ++ (lines n x ++ (starts ++ (space ++ (word b ++ end)))))))))
-    ≡ verdict_lines n b (record { set = x; rounds = r })
-unfolding verdict_lines
-verdict_text n r x b h k =
-    ap₂ (λ d e. states ++ (d ++ (end ++ (rounds ++ (e ++ (end ++ (lines n x ++ (starts ++ (space ++ (word b ++ end)))))))))) (decimal_numeral n h) (decimal_numeral r k)
-    ∙ join states (numeral n) end _
-    ∙ ap (λ l. line states n ++ l) (join rounds (numeral r) end _ ∙ ap (λ l. line rounds r ++ (lines n x ++ (starts ++ l))) (after_word b))
-
-pub refusal_text : (k p : ℕ) → k < 2 ^ 64 → p < 2 ^ 64 → refused ++ (decimal k ++ (space ++ (decimal p ++ end))) ≡ refusal_line k p
-unfolding refusal_line
-refusal_text k p h l = ap₂ (λ d e. refused ++ (d ++ (space ++ (e ++ end)))) (decimal_numeral k h) (decimal_numeral p l)
+pub shows_as : {p : Page} {l m : List ℕ} → l ≡ m → Shows p l → Shows p m
+shows_as {p} e a = subst (Shows p) e a

@@ -1,11 +1,14 @@
 -- What the program prints, as bytes: docs/SPECIFICATION.md, section 9.
-use Rattle.std.specs.Prelude.{ℕ, zero, suc, ◌^◌, Bool, cond, List, [], ◌∷◌, ◌++◌, ltb, length}
+use Rattle.std.specs.Prelude.{ℕ, zero, suc, ◌^◌, Bool, cond, List, [], ◌∷◌, ◌++◌, ◌≡◌, ltb, length, take}
+use Rattle.io.specs.Counts.{IsPrefixLen}
 use Rattle.io.specs.Digits.{last_digits}
 use Rattle.flc.specs.Sets.{first, has}
+use Rattle.case_model.specs.Areas.{Laid}
 use Rattle.case_model.specs.Case.{read}
 use Rattle.case_model.specs.Replies.{Reply, answers, refuses}
 use Rattle.case_model.specs.Judging.{Verdict, judging}
 use Rattle.case_model.specs.Run.{all_states, starts_hold}
+use Rattle.judge_case.specs.declared.page.Page.{Page}
 
 -- "states ", "rounds ", "starts", "refused ", " yes", " no", each with what follows it on its line
 abbrev pub states : List ℕ
@@ -39,10 +42,6 @@ numeral n = last_digits 10 (first (λ k. ltb n (10 ^ k)) 1 19) n
 abbrev pub line : List ℕ → ℕ → List ℕ
 line what n = what ++ (numeral n ++ end)
 
--- the word alone
-abbrev pub word : Bool → List ℕ
-word b = cond b (121 ∷ 101 ∷ 115 ∷ []) (110 ∷ 111 ∷ [])
-
 abbrev pub yes_or_no : Bool → List ℕ
 yes_or_no b = cond b yes_text no_text
 
@@ -71,3 +70,21 @@ words = 32768
 -- clause 9.1: the print of a file, judged on all its states with so many words
 unfoldable pub page : List ℕ → List ℕ
 page f = printed (length (read f).labels) (starts_hold f words) (judging f (all_states (read f)) words)
+
+-- ---- a page of text in the code
+abbrev pub text : Page → List ℕ
+text p = take p.length p.bytes
+
+-- the page shows the text l
+pub record Shows (p : Page) (l : List ℕ) : Type 0 where
+  pub is : text p ≡ l
+  pub fits : IsPrefixLen p.length p.bytes
+
+-- the page r is p with the text l more
+abbrev pub Grew : Page → Page → List ℕ → Type 0
+Grew p r l = Laid p.bytes r.bytes p.length r.length l
+
+-- a page without text
+pub record Blank (p : Page) : Type 0 where
+  pub none : p.length ≡ 0
+  pub room : length p.bytes ≡ 512

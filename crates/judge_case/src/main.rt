@@ -7,13 +7,12 @@ ghost use Rattle.std.specs.Prelude.{◌≡◌, ◌≤◌, length, IfOk};
 ghost use Rattle.flc.specs.Sets.{has};
 ghost use Rattle.case_model.specs.Case.{read};
 ghost use Rattle.case_model.specs.Run.{every_start};
-ghost use Rattle.judge_case.specs.Printed.{words, page};
-ghost use Rattle.judge_case.specs.Shown.{shown};
+ghost use Rattle.judge_case.specs.Printed.{words, page, Shows};
 
-use crate::page::Page;
+use crate::page::{Page, refusal_page, verdict_page};
 use case_file::Case;
 use case_reader::{all_states, holds, start, start_count, state_count};
-use std::io::{Error, Read};
+use std::io::{Error, Read, Write};
 
 // Is every start state in the set?
 fn starts_hold(file: &[u8], set: u16) -> bool
@@ -26,20 +25,12 @@ fn starts_hold(file: &[u8], set: u16) -> bool
 // What is printed of a file, judged on all its states.
 fn page_of(file: &[u8], work: &mut [u16]) -> Page
     requires { length work.old ≡ words }
-    ensures { shown result ≡ page file.now }
+    ensures { Shows result (page file.now) }
 {
     let states = state_count(file);
     match judge::judge(file, all_states(states), work) {
-        Ok(verdict) => Page::Verdict {
-            states,
-            rounds: verdict.rounds,
-            set: verdict.set,
-            starts: starts_hold(file, verdict.set),
-        },
-        Err(refusal) => Page::Refused {
-            number: refusal.number(),
-            place: refusal.place,
-        },
+        Ok(verdict) => verdict_page(states, starts_hold(file, verdict.set), verdict),
+        Err(refusal) => refusal_page(refusal),
     }
 }
 
@@ -68,5 +59,7 @@ fn main(rt: HostRuntime) -> Result<(), Error> {
     let mut work = [0u16; WORDS];
     let length = read_full(&mut rt.stdin(), &mut buffer)?;
     let page = page_of(&buffer[..length], &mut work);
-    print!(rt; "{page}")
+    let bytes = page.bytes;
+    let count = page.length;
+    rt.stdout().write_all(&bytes[..count])
 }

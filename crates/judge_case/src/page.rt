@@ -1,81 +1,100 @@
 // What is printed of a file: docs/SPECIFICATION.md, section 9.
-ghost use Rattle.std.specs.Prelude.{Some};
-ghost use Rattle.judge_case.specs.Printed.{lines, word};
+ghost use Rattle.std.specs.Prelude.{◌++◌, ◌+◌, ◌≤◌, length};
+ghost use Rattle.case_file.specs.EnumNumbers.{number};
+ghost use Rattle.judge.specs.EnumNumbers.{answer};
+ghost use Rattle.judge_case.specs.Printed.{yes_or_no, numeral, line, verdict_lines, refusal_line, Shows, Grew, Blank};
 
+use case_file::Refusal;
 use case_reader::holds;
-use std::fmt;
+use judge::Verdict;
 
+// What is to be printed: the first `length` bytes.
+// Bytes, and no `Display`: the library promises what a `Display` writes only where it answers Ok, and nothing promises that it does.
+// An array, and no Vec: nothing is allocated.
 #[derive(Clone, Copy)]
-struct YesNo(bool);
+pub(crate) struct Page {
+    pub(crate) bytes: [u8; 512],
+    pub(crate) length: usize,
+}
 
-impl fmt::Display for YesNo {
-    ghost output = { λ x. Some (word x.0) };
+impl Page {
+    fn new() -> Page
+        ensures { Blank result }
+    {
+        Page {
+            bytes: [0u8; 512],
+            length: 0,
+        }
+    }
 
-    fn fmt<W: fmt::Write>(&self, f: &mut fmt::Formatter<W>) -> fmt::Result {
-        if self.0 {
-            f.write_str("yes")
+    // The page with a text more.
+    fn text(self, what: &[u8]) -> Page
+        requires { self.length + length what.now ≤ 512 }
+        ensures { Grew self result what.now }
+    {
+        let end = self.length + what.len();
+        let mut bytes = self.bytes;
+        bytes[self.length..end].copy_from_slice(what);
+        Page { bytes, length: end }
+    }
+
+    fn number(self, n: u64) -> Page
+        requires { self.length + 20 ≤ 512 }
+        ensures { Grew self result (numeral n) }
+    {
+        let mut digits = [0u8; 20];
+        let count = io::decimal(n, &mut digits);
+        self.text(&digits[..count])
+    }
+
+    // A line: a text and a number.
+    fn line(self, what: &[u8], n: u64) -> Page
+        requires { self.length + length what.now + 21 ≤ 512 }
+        ensures { Grew self result (line what.now n) }
+    {
+        self.text(what).number(n).text(b"\n")
+    }
+
+    // The end of a line that says whether something holds.
+    fn yes_or_no(self, holds: bool) -> Page
+        requires { self.length + 5 ≤ 512 }
+        ensures { Grew self result (yes_or_no holds) }
+    {
+        if holds {
+            self.text(b" yes\n")
         } else {
-            f.write_str("no")
+            self.text(b" no\n")
         }
+    }
+
+    // The line of state s.
+    fn state(self, s: usize, holds: bool) -> Page
+        requires { self.length + 25 ≤ 512 }
+        ensures { Grew self result (numeral s ++ yes_or_no holds) }
+    {
+        self.number(s as u64).yes_or_no(holds)
     }
 }
 
-// A line for each state of a case: does it hold in the set?
-#[derive(Clone, Copy)]
-struct Lines {
-    states: usize,
-    set: u16,
+pub(crate) fn refusal_page(refusal: Refusal) -> Page
+    ensures { Shows result (refusal_line (number refusal.reason) refusal.place) }
+{
+    let number = refusal.number();
+    Page::new()
+        .text(b"refused ")
+        .number(number)
+        .line(b" ", refusal.place as u64)
 }
 
-impl fmt::Display for Lines {
-    ghost output = { λ x. Some (lines x.states x.set) };
-
-    fn fmt<W: fmt::Write>(&self, f: &mut fmt::Formatter<W>) -> fmt::Result {
-        let set = self.set;
-        for s in 0..self.states {
-            let answer = YesNo(holds(set, s));
-            writeln!(f, "{s} {answer}")?;
-        }
-        Ok(())
+pub(crate) fn verdict_page(states: usize, starts: bool, verdict: Verdict) -> Page
+    requires { states ≤ 16 }
+    ensures { Shows result (verdict_lines states starts (answer verdict)) }
+{
+    let mut page = Page::new()
+        .line(b"states ", states as u64)
+        .line(b"rounds ", verdict.rounds as u64);
+    for s in 0..states {
+        page = page.state(s, holds(verdict.set, s));
     }
-}
-
-// Judging's reply on a case of so many states, with whether every start state holds. No `Result`: `Display` is written for a type of one's own.
-#[derive(Clone, Copy)]
-pub(crate) enum Page {
-    Verdict {
-        states: usize,
-        rounds: usize,
-        set: u16,
-        starts: bool,
-    },
-    Refused {
-        number: u64,
-        place: usize,
-    },
-}
-
-impl fmt::Display for Page {
-    ghost use Rattle.judge_case.specs.Shown.{shown};
-
-    ghost output = { λ p. Some (shown p) };
-
-    fn fmt<W: fmt::Write>(&self, f: &mut fmt::Formatter<W>) -> fmt::Result {
-        match *self {
-            Page::Verdict {
-                states,
-                rounds,
-                set,
-                starts,
-            } => {
-                let lines = Lines { states, set };
-                let starts = YesNo(starts);
-                writeln!(
-                    f,
-                    "states {states}\nrounds {rounds}\n{lines}starts {starts}"
-                )
-            }
-            Page::Refused { number, place } => writeln!(f, "refused {number} {place}"),
-        }
-    }
+    page.text(b"starts").yes_or_no(starts)
 }

@@ -6,7 +6,7 @@ ghost use Rattle.case_file.specs.EnumNumbers.{case_counts, written_reply};
 ghost use Rattle.case_writer.specs.Writing.{Writes, whole};
 ghost use Rattle.merged_file.specs.Merged.{Named, Measured, new_file, fitting};
 
-use case_file::{Case, Reason, Refusal};
+use case_file::{AcceptedCase, Reason, Refusal};
 use case_reader::{section_offset, section_size};
 use case_writer::{Output, Sizes};
 use merged_starts::{merged_starts, put_starts};
@@ -38,7 +38,7 @@ fn put_merged(
 }
 
 // The same at the start of an area.
-// Like rewritten_file's `write`: two lines, which a function with a closure for the second would not make fewer.
+// Like rewritten_file's `write`: a few lines, which a function with a closure for the second would not make fewer.
 #[tactic(auto, using(case_writer::proofs::Runs::written_first))]
 fn write_merged(
     file: &[u8],
@@ -65,7 +65,7 @@ fn labels_left(n: usize, removed: usize) -> usize
 
 // Merges a pair of an accepted case, whose steps have been read into rows, if there is room.
 pub fn merge_pair(
-    case: Case,
+    case: AcceptedCase,
     pair: Pair,
     before: &[u16; 128],
     out: &mut [u8],

@@ -4,13 +4,13 @@ ghost use Rattle.case_model.specs.Run.{Promised};
 ghost use Rattle.case_file.specs.EnumNumbers.{written_reply};
 
 use bisimilarity::Graph;
-use case_file::{Case, Reason, Refusal};
+use case_file::{AcceptedCase, Case, Reason, Refusal};
 use case_reader::{holds, step_rows};
 use merged_file::merge_pair;
 use merged_steps::Pair;
 
 // Merges s and t of an accepted case.
-fn merge_states(case: Case, s: usize, t: usize, out: &mut [u8]) -> Result<usize, Refusal>
+fn merge_states(case: AcceptedCase, s: usize, t: usize, out: &mut [u8]) -> Result<usize, Refusal>
     ensures { Promised case.entry.file.now (record { asked = merges s t; before = out.old; after = out.new; told = written_reply result }) }
 {
     let n = case.states();
@@ -32,5 +32,9 @@ fn merge_states(case: Case, s: usize, t: usize, out: &mut [u8]) -> Result<usize,
 pub fn merge(file: &[u8], s: usize, t: usize, out: &mut [u8]) -> Result<usize, Refusal>
     ensures { Promised file.now (record { asked = merges s t; before = out.old; after = out.new; told = written_reply result }) }
 {
-    merge_states(Case::new(file)?, s, t, out)
+    let checked = Case::accept(file);
+    let Ok(case) = checked else {
+        return Err(checked.unwrap_err());
+    };
+    merge_states(case, s, t, out)
 }

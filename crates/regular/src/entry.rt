@@ -8,7 +8,7 @@ ghost use Rattle.regular_model.specs.SetBytes.{set_bytes};
 ghost use Rattle.regular_model.specs.HeldSets.{held_at};
 ghost use Rattle.regular_model.specs.Judging.{judging_regular};
 
-use crate::case::{LargeCase, has_area};
+use crate::case::{AcceptedLargeCase, LargeCase};
 use case_file::{Reason, Refusal};
 use regular_engine::{clear, run};
 use regular_profile::is_regular;
@@ -26,7 +26,11 @@ fn write_set(work: &[u8], at: usize, out: &mut [u8])
 }
 
 // Of an accepted case: rows 14, 9 and 13, then the set, after which the work area is cleared.
-fn regular_accepted(case: LargeCase, work: &mut [u8], out: &mut [u8]) -> Result<usize, Refusal>
+fn regular_accepted(
+    case: AcceptedLargeCase,
+    work: &mut [u8],
+    out: &mut [u8],
+) -> Result<usize, Refusal>
     ensures result_value { written_reply result ≡ counted (judging_regular case.entry.file.now (length work.old) (length out.old)) }
     ensures out_after { out.new ≡ written (judging_regular case.entry.file.now (length work.old) (length out.old)) out.old }
     ensures work_after { work.new ≡ cleared (judging_regular case.entry.file.now (length work.old) (length out.old)) work.old }
@@ -34,7 +38,7 @@ fn regular_accepted(case: LargeCase, work: &mut [u8], out: &mut [u8]) -> Result<
     if !is_regular(case.file()) {
         return Err(Reason::Form.into());
     }
-    if !has_area(case, work.len()) {
+    if !LargeCase::of(case).has_area(work.len()) {
         return Err(Reason::Work.into());
     }
     if out.len() < SET {
@@ -53,5 +57,9 @@ pub fn regular(file: &[u8], work: &mut [u8], out: &mut [u8]) -> Result<usize, Re
     ensures out_after { out.new ≡ written (judging_regular file.now (length work.old) (length out.old)) out.old }
     ensures work_after { work.new ≡ cleared (judging_regular file.now (length work.old) (length out.old)) work.old }
 {
-    regular_accepted(LargeCase::new(file)?, work, out)
+    let checked = LargeCase::accept(file);
+    let Ok(case) = checked else {
+        return Err(checked.unwrap_err());
+    };
+    regular_accepted(case, work, out)
 }

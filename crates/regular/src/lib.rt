@@ -4,5 +4,5 @@
 mod case;
 mod entry;
 
-pub use case::{LONGEST, LargeCase, STATES, has_area};
+pub use case::{AcceptedLargeCase, LargeCase};
 pub use entry::regular;

@@ -3,12 +3,17 @@ ghost use Rattle.case_model.specs.Book.{rewrites};
 ghost use Rattle.case_model.specs.Run.{Promised};
 ghost use Rattle.case_file.specs.EnumNumbers.{written_reply};
 
-use case_file::{Case, Reason, Refusal};
+use case_file::{AcceptedCase, Case, Reason, Refusal};
 use law_shapes::shape_at;
 use rewritten_file::Plan;
 
 // Rewrites an accepted case.
-fn rewrite_accepted(case: Case, law: usize, node: usize, out: &mut [u8]) -> Result<usize, Refusal>
+fn rewrite_accepted(
+    case: AcceptedCase,
+    law: usize,
+    node: usize,
+    out: &mut [u8],
+) -> Result<usize, Refusal>
     ensures { Promised case.entry.file.now (record {
       asked = rewrites law node;
       before = out.old;
@@ -38,8 +43,7 @@ fn rewrite_accepted(case: Case, law: usize, node: usize, out: &mut [u8]) -> Resu
     if out.len() < all {
         return Err(Reason::Room.into());
     }
-    plan.write(file, sizes, out);
-    Ok(all)
+    Ok(plan.write(file, sizes, out))
 }
 
 // Rewrites node `node` by law `law`, and writes the new case.
@@ -52,5 +56,9 @@ pub fn rewrite(file: &[u8], law: usize, node: usize, out: &mut [u8]) -> Result<u
       told = written_reply result;
     }) }
 {
-    rewrite_accepted(Case::new(file)?, law, node, out)
+    let checked = Case::accept(file);
+    let Ok(case) = checked else {
+        return Err(checked.unwrap_err());
+    };
+    rewrite_accepted(case, law, node, out)
 }

@@ -131,14 +131,15 @@ impl Plan {
         put_section(file, 3, output);
     }
 
-    // Writes the new file at the start of an area.
-    #[tactic(auto, using(case_writer::proofs::Runs::written_first))]
-    pub fn write(self, file: &[u8], sizes: Sizes, out: &mut [u8])
+    // Writes the new file at the start of an area. The answer is where it ends.
+    #[tactic(auto, using(case_writer::proofs::Runs::written_up_to))]
+    pub fn write(self, file: &[u8], sizes: Sizes, out: &mut [u8]) -> usize
         requires { Planned file.now self × Measured file.now self sizes × (whole sizes ≤ length out.old) }
-        ensures { Laid out.old out.new 0 (length (write (renewed file.now self))) (write (renewed file.now self)) }
+        ensures { Laid out.old out.new 0 result (write (renewed file.now self)) }
     {
         let mut output = Output::new(out);
         self.put(file, sizes, &mut output);
+        output.written()
     }
 }
 

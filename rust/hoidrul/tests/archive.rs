@@ -1,10 +1,18 @@
-//! How the build finds the archive: the environment variable HOIDRUL_LIB_DIR.
+//! How the build finds the archive: the environment variable HOIDRUL_LIB_DIR; and what it needs.
 mod common;
 
-use common::{cargo, run, scratch};
-use std::fs;
+use common::{cargo, printed, run, scratch};
 use std::path::Path;
 use std::process::Command;
+use std::{env, fs};
+
+/// All that the archive may need from outside, in C.
+const OUTSIDE: &str = "#include <stddef.h>
+void *memcpy(void *to, const void *from, size_t size);
+void *memset(void *to, int value, size_t size);
+void *memcpy(void *to, const void *from, size_t size) { return size ? to : (void *)from; }
+void *memset(void *to, int value, size_t size) { return value + size ? to : NULL; }
+";
 
 /// What cargo told, having failed or not, with the archive looked for in a folder.
 fn told(cargo: &mut Command, folder: &Path, success: bool) -> String {
@@ -63,4 +71,27 @@ fn other_targets() {
         let text = common::text(without.stderr);
         assert!(!text.contains("libhoidrul.a"), "{text}");
     }
+}
+
+/// Linked whole beside two functions alone, without a C library, it leaves nothing open. The
+/// program is not run.
+#[test]
+fn needs_memcpy_and_memset_alone() {
+    let source = scratch("outside").with_extension("c");
+    fs::write(&source, OUTSIDE).unwrap();
+    let mut cc = Command::new(env::var_os("CC").unwrap_or("cc".into()));
+    cc.args([
+        "-ffreestanding",
+        "-fno-builtin",
+        "-nostdlib",
+        "-shared",
+        "-fPIC",
+    ]);
+    cc.arg(&source)
+        .args(["-Wl,--no-undefined", "-Wl,--whole-archive"]);
+    cc.arg(Path::new(env!("HOIDRUL_ARCHIVE_DIR")).join("libhoidrul.a"));
+    cc.arg("-Wl,--no-whole-archive")
+        .arg("-o")
+        .arg(scratch("outside"));
+    printed(run(&mut cc));
 }

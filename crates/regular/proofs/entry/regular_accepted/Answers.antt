@@ -7,6 +7,7 @@ use borrow.Author.Tests.{leb-true}
 use lib.Dec.{T, leb}
 use lib.ListN.{length}
 use Rattle.case_model.specs.Case.{read, rule}
+use Rattle.case_model.specs.Replies.{Counts}
 use Rattle.case_model.proofs.Valid.{accepted_valid}
 use Rattle.case_file.proofs.Refusals.{of_reason}
 use Rattle.regular_model.specs.Judging.{large}
@@ -25,6 +26,9 @@ returns-then-not-is_regular c =
     (judging_form a.case.file.now (length a.work.now) (length a.out.now) a.case.accepted.rows (sym tested ∙ c.if-not-is_regular.true)) in
     record { result_value = told; out_after = out; work_after = work }
 
+nodes_told : {k l : Counts} {n : ℕ} → k ≡ l → l.nodes ≡ n → k.nodes ≡ n
+nodes_told e q = ap (λ (k : Counts). k.nodes) e ∙ q
+
 -- the test of the area, of the file's own count
 area_tested : {test : Bool} {m n : ℕ} (bytes : ℕ) → test ≡ leb (64 * m) bytes → m ≡ n → test ≡ leb (64 * n) bytes
 area_tested bytes e q = e ∙ ap (λ m. leb (64 * m) bytes) q
@@ -34,7 +38,7 @@ pub returns-then-not-has_area : goal.returns-then-not-has_area
 returns-then-not-has_area c =
     let a = c.args in
     let inside = sym (rw c.file.ensures at c.is_regular.ensures) ∙ c.if-not-is_regular.false in
-    let tested = area_tested (length a.work.now) c.has_area.ensures a.case.accepted.nodes in
+    let tested = area_tested (length a.work.now) c.has_area.ensures (nodes_told c.of.ensures a.case.accepted.nodes) in
     let (told, (out, work)) = refuses_so a.out.now a.work.now (of_reason _ c.into-then-not-has_area.ensures)
     (judging_short a.case.file.now (length a.work.now) (length a.out.now) a.case.accepted.rows inside (sym tested ∙ c.if-not-has_area.true)) in
     record { result_value = told; out_after = out; work_after = work }
@@ -44,7 +48,7 @@ pub returns-then-out-lt-SET : goal.returns-then-out-lt-SET
 returns-then-out-lt-SET c =
     let a = c.args in
     let inside = sym (rw c.file.ensures at c.is_regular.ensures) ∙ c.if-not-is_regular.false in
-    let tested = area_tested (length a.work.now) c.has_area.ensures a.case.accepted.nodes in
+    let tested = area_tested (length a.work.now) c.has_area.ensures (nodes_told c.of.ensures a.case.accepted.nodes) in
     let (told, (out, work)) = refuses_so a.out.now a.work.now (of_reason _ c.into-then-out-lt-SET.ensures)
     (judging_narrow a.case.file.now (length a.work.now) (length a.out.now) a.case.accepted.rows inside (sym tested ∙ c.if-not-has_area.false) c.if-out-lt-SET.true) in
     record { result_value = told; out_after = out; work_after = work }
@@ -52,7 +56,7 @@ returns-then-out-lt-SET c =
 pub run-at-requires : goal.run-at-requires
 run-at-requires c =
     let inside : regular (rule (read c.args.case.file.now)) ≡ true = sym (rw c.file.ensures at c.is_regular.ensures) ∙ c.if-not-is_regular.false in
-    let tested = area_tested (length c.args.work.now) c.has_area.ensures c.args.case.accepted.nodes in
+    let tested = area_tested (length c.args.work.now) c.has_area.ensures (nodes_told c.of.ensures c.args.case.accepted.nodes) in
     rw c.file-2.ensures (record {
       rows = c.args.case.accepted.rows;
       profile = subst T (sym inside) tt;
@@ -63,7 +67,7 @@ pub returns : goal.returns
 returns c =
     let a = c.args in
     let inside = sym (rw c.file.ensures at c.is_regular.ensures) ∙ c.if-not-is_regular.false in
-    let tested = area_tested (length a.work.now) c.has_area.ensures a.case.accepted.nodes in
+    let tested = area_tested (length a.work.now) c.has_area.ensures (nodes_told c.of.ensures a.case.accepted.nodes) in
     let room : 32 ≤ length a.out.now = omega (arith, c.if-out-lt-SET.false) in
     let (told, (out, work)) = answers_so (rw c.file-2.ensures at c.run-at.ensures) c.write_set.ensures room c.clear.ensures
     (judging_set a.case.file.now (length a.work.now) (length a.out.now) a.case.accepted.rows inside (sym tested ∙ c.if-not-has_area.false) room) in

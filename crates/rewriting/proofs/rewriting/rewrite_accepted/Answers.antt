@@ -1,11 +1,13 @@
 -- `rewriting::rewriting::rewrite_accepted` meets its contract: 11, 12 or 13, or the new file.
 use Prim.Native.Nat.{ℕ, ◌+◌}
-use mathlib.Core.Path.{refl, ap, ◌∙◌}
+use mathlib.Core.Path.{◌≡◌, refl, ap}
 use native.Mathlib.Omega.{arith}
 use lib.ListN.{length}
 use Rattle.case_file.proofs.Refusals.{of_reason}
 use Rattle.case_model.proofs.Laying.{laid_whole}
+use Rattle.case_model.specs.Case.{write}
 use Rattle.case_model.specs.Replies.{answers}
+use Rattle.rewritten_file.specs.Plans.{renewed}
 use Rattle.rewritten_file.proofs.NewFile.{new_short}
 use Rattle.rewriting.proofs.Outcomes.{nodes_few, planned, brought, count, rewriting_beyond, rewriting_nowhere, rewriting_many, rewriting_short, rewriting-fits}
 use Rattle.rewriting.proofs.rewriting.rewrite_accepted.Goals as goal
@@ -84,7 +86,8 @@ returns c =
     let n = count a.case.accepted a.law a.node (omega arith) does c.in-Some.shape c.in-Some.is in
     let z = rw c.file-file.ensures at c.sizes-sizes.ensures in
     let new = rw c.file-file.ensures at c.write.ensures in
+    let told : c.write.result ≡ length (write (renewed a.case.file.now (record { shape = c.in-Some.shape; j = a.node; nodes = m }))) = omega (arith, new.ends) in
     let e =
     rewriting-fits a.case.file.now (record { shape = c.in-Some.shape; j = a.node; nodes = m }) a.case.accepted.rows a.law is (omega (arith, n, c.added.ensures)) (omega arith) (length a.out.now)
     (omega (arith, c.if-out-all.false, c.whole-all.ensures, z.all)) in
-    record { says = rw e (ap answers (c.whole-all.ensures ∙ z.all)); leaves = rw e (laid_whole new (omega (arith, c.if-out-all.false, c.whole-all.ensures, z.all))) }
+    record { says = rw e (ap answers told); leaves = rw e (laid_whole new (omega (arith, c.if-out-all.false, c.whole-all.ensures, z.all))) }

@@ -9,7 +9,7 @@ use Rattle.case_model.specs.Case.{read}
 use Rattle.case_model.specs.Limits.{standard}
 use Rattle.case_model.specs.Valid.{Valid}
 use Rattle.case_model.proofs.Valid.{accepted_valid}
-use Rattle.case_file.specs.declared.case.CaseWithin.{CaseWithin}
+use Rattle.case_file.specs.declared.accepted.CaseWithin.{CaseWithin}
 use Rattle.bisimilarity.proofs.Drawing.{drawn, within}
 use Rattle.bisimilarity.proofs.graph.Graph.draw.Goals as goal
 

@@ -1,11 +1,11 @@
--- `regular::case::has_area` meets its contract: a quotient by 64 tells how many blocks there are.
+-- `regular::case::LargeCase::has_area` meets its contract: a quotient by 64 tells how many blocks there are.
 use Prim.Native.Nat.{ℕ, ◌*◌, ◌/◌}
 use mathlib.Core.Path.{◌≡◌}
 use native.Mathlib.Decide.{dec_lt}
 use native.Mathlib.Omega.{arith}
 use borrow.Author.Tests.{le-leb, lt-leb}
 use lib.Dec.{leb}
-use Rattle.regular.proofs.case.has_area.Goals as goal
+use Rattle.regular.proofs.case.LargeCase.has_area.Goals as goal
 
 blocks-fit : (m bytes : ℕ) → leb m (bytes / 64) ≡ leb (64 * m) bytes
 blocks-fit m bytes = elim (dec_lt (bytes / 64) m) [
@@ -14,4 +14,4 @@ blocks-fit m bytes = elim (dec_lt (bytes / 64) m) [
 ]
 
 pub returns : goal.returns
-returns c = rw c.nodes.ensures (blocks-fit c.args.case.counts.nodes c.args.bytes)
+returns c = let a = c.args in blocks-fit a.self.counts.nodes a.bytes
