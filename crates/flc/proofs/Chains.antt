@@ -72,13 +72,6 @@ module _ {F : Type 0} {g : Mut F (ℕ × Unit {0}) Bool} {u : Range ℕ} {f : F}
   any_below ran call =
       any_from_yields_List p u f r ran (YieldsList-from_range 0 n n refl (omega arith)) call ∙ some_range p 0 n ∙ ap (for_some n) (λ j i. from_zero p i j)
 
--- the same from a up to b
-pub any_between : {F : Type 0} {g : Mut F (ℕ × Unit {0}) Bool} {u : Range ℕ} {f : F} (r : Bool) (a b : ℕ) (p : ℕ → Bool)
-    → ChecksAny nat_range_steps g (record { start = a; end = b }) f r u
-    → ((x : ℕ) (b : Bool) (q : F) → Called g f (x, tt) b q → (q ≡ f) × (b ≡ p x)) → r ≡ for_some (b - a) (λ i. p (a + i))
-any_between {u = u} {f = f} r a b p ran call =
-    any_from_yields_List p u f r ran (YieldsList-from_range a b (b - a) refl refl) call ∙ some_range p a (b - a)
-
 -- the first of the k numbers from a on that passes is i, if it is there or i is the end
 first_at : (p : ℕ → Bool) (a k i : ℕ) → a ≤ i → i ≤ a + k → ((j : ℕ) → a ≤ j → j < i → p j ≡ false) → (i < a + k → p i ≡ true) → first p a k ≡ i
 unfolding first

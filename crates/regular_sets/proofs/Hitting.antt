@@ -19,34 +19,46 @@ use Rattle.regular_sets.specs.Views.{decided}
 not_T : {b : Bool} → b ≡ false → T b → ⊥
 not_T e t = subst T e t
 
+-- ---- a search from i on
+module _ (p : ℕ → Bool) (i to : ℕ) where
+  moved : (k j : ℕ) → k ≡ j → T (p k) → T (p j)
+  moved k j e t = subst (λ k. T (p k)) e t
+
+  pub some_yes : i < to → p i ≡ true → for_some (to - i) (λ k. p (i + k)) ≡ true
+  some_yes h e = is_true _ (for_some_mk (to - i) (λ k. p (i + k)) 0 (omega arith) (moved i (i + 0) (omega arith) (subst T (sym e) tt)))
+
+  pub some_on : p i ≡ false → for_some (to - i) (λ k. p (i + k)) ≡ for_some (to - (i + 1)) (λ k. p (i + 1 + k))
+  some_on e = bool_ext _ _
+      (λ t.
+      let (k, h, u) = for_some_use (to - i) (λ k. p (i + k)) t in
+      elim (ℕ_discrete k 0) [
+        | yes q ↦ absurd (not_T e (moved (i + k) i (omega (arith, q)) u))
+        | no q ↦ for_some_mk (to - (i + 1)) (λ k. p (i + 1 + k)) (k - 1) (omega (arith, q)) (moved (i + k) (i + 1 + (k - 1)) (omega (arith, q)) u)
+      ])
+      (λ t.
+      let (k, h, u) = for_some_use (to - (i + 1)) (λ k. p (i + 1 + k)) t in
+      for_some_mk (to - i) (λ k. p (i + k)) (k + 1) (omega arith) (moved (i + 1 + k) (i + (k + 1)) (omega arith) u))
+
+  pub some_end : to ≤ i → for_some (to - i) (λ k. p (i + k)) ≡ false
+  unfolding for_some
+  some_end h = let z : to - i ≡ 0 = omega arith in rw z
+
 -- ---- places
 module _ (l : List Triple) (x : ℕ) (d : Bool) (i to : ℕ) where
   abbrev place : ℕ → Bool
   place k = signed d (has x (at l k).2)
 
-  moved : (k j : ℕ) → k ≡ j → T (place k) → T (place j)
-  moved k j e t = subst (λ k. T (place k)) e t
-
   pub hits_yes : i < to → signed d (has x (at l i).2) ≡ true → hits l x d i to ≡ true
   unfolding hits
-  hits_yes h e = is_true _ (for_some_mk (to - i) (λ k. place (i + k)) 0 (omega arith) (moved i (i + 0) (omega arith) (subst T (sym e) tt)))
+  hits_yes = some_yes place i to
 
   pub hits_on : signed d (has x (at l i).2) ≡ false → hits l x d i to ≡ hits l x d (i + 1) to
   unfolding hits
-  hits_on e = bool_ext _ _
-      (λ t.
-      let (k, h, u) = for_some_use (to - i) (λ k. place (i + k)) t in
-      elim (ℕ_discrete k 0) [
-        | yes q ↦ absurd (not_T e (moved (i + k) i (omega (arith, q)) u))
-        | no q ↦ for_some_mk (to - (i + 1)) (λ k. place (i + 1 + k)) (k - 1) (omega (arith, q)) (moved (i + k) (i + 1 + (k - 1)) (omega (arith, q)) u)
-      ])
-      (λ t.
-      let (k, h, u) = for_some_use (to - (i + 1)) (λ k. place (i + 1 + k)) t in
-      for_some_mk (to - i) (λ k. place (i + k)) (k + 1) (omega arith) (moved (i + 1 + k) (i + (k + 1)) (omega arith) u))
+  hits_on = some_on place i to
 
   pub hits-end : to ≤ i → hits l x d i to ≡ false
-  unfolding hits for_some
-  hits-end h = let z : to - i ≡ 0 = omega arith in rw z
+  unfolding hits
+  hits-end = some_end place i to
 
 -- ---- actions
 module _ (l : List Triple) (x : ℕ) (d : Bool) (g s : ℕ) where

@@ -91,6 +91,8 @@ impl Drive<'_> {
 
     // Does a step from place `from` up to `to` lead into the set, or out of it?
     // Beside the drive go the values that change from call to call.
+    // Inlined before the compiler simplifies `holds`, as is `decides`: a step that decides then leaves both loops at once.
+    #[inline(always)]
     fn hit(self, from: usize, to: usize, x: &[u8; 32], into: bool) -> bool
         requires { to ≤ length (read self.file.now).steps }
         ensures { result ≡ hits (read self.entry.file.now).steps (held_at x.now 0) into from to }
@@ -105,6 +107,7 @@ impl Drive<'_> {
     }
 
     // The same for the steps of state s by action a, if the group has it.
+    #[inline(always)]
     fn decides(self, x: &[u8; 32], m: Modality, s: usize, a: usize) -> bool
         requires { (s < length (read self.file.now).labels) × (a < 8) }
         ensures { result ≡ decided (read self.entry.file.now).steps (held_at x.now 0) m.some m.group s a }
@@ -124,7 +127,16 @@ impl Drive<'_> {
     pub(crate) fn holds(self, x: &[u8; 32], m: Modality, s: usize) -> bool
         ensures { result ≡ has (mean_atom (table (read self.entry.file.now)) (logic.modal m.some m.group) (held_at x.now 0)) s }
     {
-        s < self.states && (m.first..m.last).any(|a| self.decides(x, m, s, a)) == m.some
+        if self.states <= s {
+            return false;
+        }
+        // A `for`, and no `any`: with that the compiler laid the search out eight times, once for each bit of a byte, and judging took 1.2 of the time.
+        for a in m.first..m.last {
+            if self.decides(x, m, s, a) {
+                return m.some;
+            }
+        }
+        !m.some
     }
 }
 

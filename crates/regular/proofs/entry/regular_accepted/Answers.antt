@@ -10,13 +10,12 @@ use Rattle.case_model.specs.Case.{read, rule}
 use Rattle.case_model.specs.Replies.{Counts}
 use Rattle.case_model.proofs.Valid.{accepted_valid}
 use Rattle.case_file.proofs.Refusals.{of_reason}
-use Rattle.regular_model.specs.Judging.{large}
 use Rattle.regular_model.specs.Regular.{regular}
 use Rattle.regular.proofs.Replying.{judging_form, judging_short, judging_narrow, judging_set, refuses_so, answers_so}
 use Rattle.regular.proofs.entry.regular_accepted.Goals as goal
 
 pub is_regular-requires : goal.is_regular-requires
-is_regular-requires c = rw c.file.ensures ((accepted_valid large _ c.args.case.accepted.rows).rule)
+is_regular-requires c = rw c.file.ensures ((accepted_valid _ _ c.args.case.accepted.rows).rule)
 
 pub returns-then-not-is_regular : goal.returns-then-not-is_regular
 returns-then-not-is_regular c =

@@ -1,35 +1,30 @@
 -- `regular_sets::drive::Drive::holds` meets its contract: whether a step decides is the answer, up to the flag; no state is past the table.
-use mathlib.Core.Path.{sym, ap, ◌∙◌}
+use mathlib.Core.Path.{sym, ◌∙◌}
 use native.Mathlib.Omega.{arith}
-use borrow.Author.Tests.{le-ltb}
-use Rattle.std.proofs.Common.{rules}
-use Rattle.flc.specs.Order.{signed}
-use Rattle.flc.proofs.Chains.{any_between}
 use Rattle.case_model.specs.Case.{read, table}
 use Rattle.regular_model.specs.HeldSets.{held_at}
-use Rattle.regular_model.proofs.StepGroups.{modal_hits}
 use Rattle.regular_sets.specs.Views.{decided}
-use Rattle.regular_sets.proofs.Flags.{same-signed}
-use Rattle.regular_sets.proofs.Hitting.{hits_among}
-use Rattle.regular_sets.proofs.Modalities.{modal_beyond}
+use Rattle.regular_sets.proofs.Flags.{signed_true, signed_false}
+use Rattle.regular_sets.proofs.Hitting.{some_yes, some_on, some_end}
+use Rattle.regular_sets.proofs.Modalities.{modal_beyond, modal_found}
 use Rattle.regular_sets.proofs.drive.Drive.holds.Goals as goal
 
-pub returns-then-s-self : goal.returns-then-s-self
-returns-then-s-self c =
-    let D = c.args.self in
-    let m = c.args.m in
-    let s = c.args.s in
-    let l = (read D.file.now).steps in
-    let x = held_at c.args.x.now 0 in
-    let found = any_between _ m.first m.last (decided l x m.some m.group s) c.any.ensures.ran (λ a b q k. search rules)
-    ∙ hits_among l x m.some m.group s m.first m.last m.few m.low m.high in
-    same-signed c.any.result m.some ∙ ap (signed m.some) found
-    ∙ sym (modal_hits D.viewed.table m.some m.group x s (omega (arith, c.if-s-self.true, D.counted)))
+pub loop-a-preserved : goal.loop-a-preserved
+loop-a-preserved c = c.loop-a.invariant ∙ some_on (decided _ _ _ _ _) c.loop-a.a _ (sym c.decides.ensures ∙ c.if-decides.false)
 
-pub returns-else-s-self : goal.returns-else-s-self
+pub returns-then-self-s : goal.returns-then-self-s
 unfolding table
-returns-else-s-self c =
+returns-then-self-s c =
     let D = c.args.self in
     let m = c.args.m in
-    le-ltb _ _ c.if-s-self.false
-    ∙ sym (modal_beyond (table (read D.file.now)) m.some m.group (held_at c.args.x.now 0) c.args.s (omega (arith, c.if-s-self.false, D.counted)))
+    sym (modal_beyond (table (read D.file.now)) m.some m.group (held_at c.args.x.now 0) c.args.s (omega (arith, c.if-self-s.true, D.counted)))
+
+pub returns-then-decides : goal.returns-then-decides
+returns-then-decides c =
+    let yes = some_yes (decided _ _ _ _ _) c.loop-a.a _ c.loop-a-test.true (sym c.decides.ensures ∙ c.if-decides.true) in
+    sym (signed_true c.args.m.some) ∙ modal_found c.args.self c.args.m _ _ c.if-self-s.false (c.loop-a.invariant ∙ yes)
+
+pub returns : goal.returns
+returns c =
+    let none = some_end (decided _ _ _ _ _) c.loop-a.a c.args.m.last (omega (arith, c.loop-a-test.false)) in
+    sym (signed_false c.args.m.some) ∙ modal_found c.args.self c.args.m _ _ c.if-self-s.false (c.loop-a.invariant ∙ none)
